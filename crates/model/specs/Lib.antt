@@ -1,0 +1,3 @@
+-- Counts, refusals, what lent tables spell, and what the judge of them answers.
+pub mod Refusals
+pub mod Counts

@@ -1,0 +1,3 @@
+// A model's counts, refusals, lent tables, and the judge of these.
+pub mod counts;
+pub mod refusal;

@@ -1,0 +1,10 @@
+-- Rings in a lent table: plain lists, chains, the published statements, and what a table spells.
+pub mod Lists
+pub mod Distinct
+pub mod Chain
+pub mod Unique
+pub mod Rings
+pub mod Table
+pub mod Stores
+pub mod Spell
+pub mod Sound

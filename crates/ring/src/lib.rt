@@ -1,0 +1,83 @@
+// Two-way rings in a lent table of 2 × m words: the successor of i at i, its predecessor at m + i, 0 for none.
+// Core functions: callers have judged the table, or made it by these functions.
+ghost use mathlib.Core.Path.{_≡_};
+ghost use Prim.Native.Nat.{_<_};
+ghost use Rattle.ring.specs.Table.{Sound, Made, unlinked, linkedBehind, linkedBefore, counted};
+
+// Takes x out of its ring; nothing where it stands in none.
+pub fn unlink(t: &mut [u32], m: usize, x: usize)
+    requires { ⌜ Sound m (now t) ⌝ }
+    requires { ⌜ x < m ⌝ }
+    ensures { λ _. ⌜ Made m (unlinked m x (now (t .entry))) (now (t .exit)) ⌝ }
+{
+    let sw = t[x];
+    if sw == 0 {
+        return;
+    }
+    let pw = t[m + x];
+    let s = sw as usize;
+    let p = pw as usize;
+    t[m + s] = pw;
+    t[p] = sw;
+    t[x] = 0;
+    t[m + x] = 0;
+}
+
+// Puts x, which stands in no ring, behind y.
+pub fn link_behind(t: &mut [u32], m: usize, xw: u32, yw: u32)
+    requires { ⌜ Sound m (now t) ⌝ }
+    requires { ⌜ xw < m ⌝ }
+    requires { ⌜ yw < m ⌝ }
+    ensures { λ _. ⌜ Made m (linkedBehind m xw yw (now (t .entry))) (now (t .exit)) ⌝ }
+{
+    let x = xw as usize;
+    let y = yw as usize;
+    let sw = t[y];
+    let s = sw as usize;
+    t[m + x] = yw;
+    t[x] = sw;
+    t[m + s] = xw;
+    t[y] = xw;
+}
+
+// Puts x, which stands in no ring, before y.
+pub fn link_before(t: &mut [u32], m: usize, xw: u32, yw: u32)
+    requires { ⌜ Sound m (now t) ⌝ }
+    requires { ⌜ xw < m ⌝ }
+    requires { ⌜ yw < m ⌝ }
+    ensures { λ _. ⌜ Made m (linkedBefore m xw yw (now (t .entry))) (now (t .exit)) ⌝ }
+{
+    let x = xw as usize;
+    let y = yw as usize;
+    let pw = t[m + y];
+    let p = pw as usize;
+    t[x] = yw;
+    t[m + x] = pw;
+    t[p] = xw;
+    t[m + y] = xw;
+}
+
+// A word of a table as a place.
+pub fn wide(x: u32) -> usize
+    ensures { λ r. ⌜ r ≡ x ⌝ }
+{
+    x as usize
+}
+
+// How many members the ring of h has.
+pub fn count(t: &[u32], m: usize, h: usize) -> usize
+    requires { ⌜ Sound m (now t) ⌝ }
+    requires { ⌜ h < m ⌝ }
+    ensures { λ r. ⌜ r ≡ counted m h (now (t .entry)) ⌝ }
+{
+    let mut n: usize = 0;
+    let mut i = wide(t[h]);
+    while n < m {
+        if i == h {
+            return n;
+        }
+        i = wide(t[i]);
+        n += 1;
+    }
+    n
+}
