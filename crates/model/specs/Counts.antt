@@ -2,11 +2,11 @@
 -- 0 means none".
 use Prim.Native.Nat.{ℕ, suc, _+_, _*_, _-_, _≤_, _<_}
 use mathlib.Core.Path.{_≡_, refl, sym, _∙_}
-use mathlib.Core.Bool.{Bool, true, false, _&&_}
+use mathlib.Core.Bool.{Bool, true, false, not, _&&_}
 use mathlib.Core.List.{List}
 use native.Mathlib.Omega.{arith}
 use lib.Dec.{leb, ltb, eqb}
-use borrow.Author.Tests.{leb-true, le-leb, lt-leb}
+use borrow.Author.Tests.{leb-true, le-leb, lt-leb, not-true, not-false}
 use Rattle.ring.specs.Lists.{if_then_else_, test, clash}
 use Rattle.model.specs.declared.counts.Counts.{Counts}
 use Rattle.model.specs.declared.counts.CountsMade.{CountsMade}
@@ -98,25 +98,31 @@ made-allowed c n e =
     (λ t. let q : Made c ≡ Made n = sym (rw t) ∙ e in (cc, limits-allowed c t))
     (λ t. let q : Refused Size ≡ Made n = sym (rw t) ∙ e in let z : false ≡ true = cc in clash z)
 
--- the constructor's tests, one by one
+-- the tests, one by one
 module _ (c : Counts) where
-  pub made-heads : 64 < c .heads → Refused Size ≡ madeOf c
-  unfolding madeOf inLimits
-  made-heads l = rw (lt-leb (c .heads) 64 l)
+  pub limits-heads : 64 < c .heads → false ≡ inLimits c
+  unfolding inLimits
+  limits-heads l = rw (lt-leb (c .heads) 64 l)
 
-  pub made-none : c .heads ≤ 64 → c .processes < 1 → Refused Size ≡ madeOf c
-  unfolding madeOf inLimits
-  made-none h l = rw (le-leb (c .heads) 64 h, lt-leb 1 (c .processes) l)
+  module _ (h : c .heads ≤ 64) where
+    pub limits-none : c .processes < 1 → false ≡ inLimits c
+    unfolding inLimits
+    limits-none l = rw (le-leb (c .heads) 64 h, lt-leb 1 (c .processes) l)
 
-  pub made-processes : c .heads ≤ 64 → 1 ≤ c .processes → 1024 < c .processes → Refused Size ≡ madeOf c
-  unfolding madeOf inLimits
-  made-processes h s l = rw (le-leb (c .heads) 64 h, le-leb 1 (c .processes) s, lt-leb (c .processes) 1024 l)
+    module _ (s : 1 ≤ c .processes) where
+      pub limits-processes : 1024 < c .processes → false ≡ inLimits c
+      unfolding inLimits
+      limits-processes l = rw (le-leb (c .heads) 64 h, le-leb 1 (c .processes) s, lt-leb (c .processes) 1024 l)
 
-  module _ (h : c .heads ≤ 64) (s : 1 ≤ c .processes) (p : c .processes ≤ 1024) where
-    pub made-plains : 3008 < c .plains → Refused Size ≡ madeOf c
-    unfolding madeOf inLimits
-    made-plains l = rw (le-leb (c .heads) 64 h, le-leb 1 (c .processes) s, le-leb (c .processes) 1024 p, lt-leb (c .plains) 3008 l)
+      pub limits-plains : c .processes ≤ 1024 → leb (c .plains) 3008 ≡ inLimits c
+      unfolding inLimits
+      limits-plains l = rw (le-leb (c .heads) 64 h, le-leb 1 (c .processes) s, le-leb (c .processes) 1024 l)
 
-    pub made-fine : c .plains ≤ 3008 → Made c ≡ madeOf c
+  module _ (ok : Bool) (e : ok ≡ inLimits c) where
+    pub made-not : not ok ≡ true → Refused Size ≡ madeOf c
     unfolding madeOf
-    made-fine l = rw (allowed-limits c (record { heads-in = h; some = s; processes-in = p; plains-in = l }))
+    made-not n = rw (sym e ∙ not-true ok n)
+
+    pub made-fine : not ok ≡ false → Made c ≡ madeOf c
+    unfolding madeOf
+    made-fine n = rw (sym e ∙ not-false ok n)

@@ -1,3 +1,16 @@
 -- Counts, refusals, what lent tables spell, and what the judge of them answers.
 pub mod Refusals
 pub mod Counts
+pub mod Tabulate
+pub mod Notices
+pub mod Tables
+pub mod Judge
+pub mod Tests
+pub mod AxisJudged
+pub mod Reading
+pub mod Formed
+pub mod Only
+pub mod Verdict
+pub mod Ready
+pub mod Positions
+pub mod Fresh

@@ -1,7 +1,8 @@
 // A model's counts: linkages are numbered heads first, then processes, then plain links, from 1; 0 means none.
 use crate::refusal::Refusal;
+use ring::wide;
 ghost use mathlib.Core.Path.{_≡_};
-ghost use Rattle.model.specs.Counts.{madeOf, total, main, isHead, isProcess, isLink, isLinkage, placeOf, linkageAt};
+ghost use Rattle.model.specs.Counts.{madeOf, inLimits, total, main, isHead, isProcess, isLink, isLinkage, placeOf, linkageAt};
 
 pub struct Counts {
     pub heads: u32,
@@ -12,12 +13,6 @@ pub struct Counts {
 pub enum CountsMade {
     Made(Counts),
     Refused(Refusal),
-}
-
-fn wide(x: u32) -> usize
-    ensures { λ r. ⌜ r ≡ x ⌝ }
-{
-    x as usize
 }
 
 // The latest time: 2^40 - 1 ticks.
@@ -34,23 +29,32 @@ impl Counts {
     pub fn new(heads: u32, processes: u32, plains: u32) -> CountsMade
         ensures { λ r. ⌜ r ≡ madeOf (record { heads = heads; processes = processes; plains = plains }) ⌝ }
     {
-        if Counts::MAX_HEADS < heads {
-            return CountsMade::Refused(Refusal::Size);
-        }
-        if processes < 1 {
-            return CountsMade::Refused(Refusal::Size);
-        }
-        if Counts::MAX_PROCESSES < processes {
-            return CountsMade::Refused(Refusal::Size);
-        }
-        if Counts::MAX_PLAINS < plains {
-            return CountsMade::Refused(Refusal::Size);
-        }
-        CountsMade::Made(Counts {
+        let c = Counts {
             heads,
             processes,
             plains,
-        })
+        };
+        let ok = c.within_limits();
+        if !ok {
+            return CountsMade::Refused(Refusal::Size);
+        }
+        CountsMade::Made(c)
+    }
+
+    // Are the counts within their limits?
+    pub fn within_limits(self) -> bool
+        ensures { λ r. ⌜ r ≡ inLimits self ⌝ }
+    {
+        if Counts::MAX_HEADS < self.heads {
+            return false;
+        }
+        if self.processes < 1 {
+            return false;
+        }
+        if Counts::MAX_PROCESSES < self.processes {
+            return false;
+        }
+        self.plains <= Counts::MAX_PLAINS
     }
 
     // How many linkages there are.

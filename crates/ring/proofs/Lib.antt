@@ -1,2 +1,3 @@
 -- laws that belong to no one function
 pub mod Counting
+pub mod Judging

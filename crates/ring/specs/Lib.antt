@@ -7,4 +7,10 @@ pub mod Rings
 pub mod Table
 pub mod Stores
 pub mod Spell
+pub mod Empty
 pub mod Sound
+pub mod Judge
+pub mod RingWalk
+pub mod Busy
+pub mod Rows
+pub mod Fine

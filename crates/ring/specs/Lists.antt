@@ -7,6 +7,7 @@ use mathlib.Core.List.{List, [], _∷_, _++_}
 use native.Mathlib.Decide.{ℕ-discrete, decLt}
 use native.Mathlib.Omega.{arith}
 use lib.Dec.{eqb}
+use lib.ListN.{replicate}
 use borrow.Author.Tests.{eq-eqb, ne-eqb}
 
 -- ---- definitions
@@ -35,6 +36,10 @@ behind y x a (z ∷ zs) = if eqb a y then x ∷ z ∷ zs else z ∷ behind y x z
 abbrev pub ahead : ℕ → ℕ → List ℕ → ℕ → List ℕ
 ahead y x [] b = if eqb b y then x ∷ [] else []
 ahead y x (z ∷ zs) b = if eqb z y then x ∷ z ∷ zs else z ∷ ahead y x zs b
+
+-- n zeros
+abbrev pub zeros : ℕ → List ℕ
+zeros n = replicate n 0
 
 -- ---- case splits
 

@@ -22,25 +22,25 @@ suc-at m t x h = getD-take m t x 0 h
 -- ---- one store
 
 module _ (m : ℕ) (t : List ℕ) (i v : ℕ) where
-  s-same : i < m → length t ≡ 2 * m → sucs m (set t i v) i ≡ v
+  pub s-same : i < m → length t ≡ 2 * m → sucs m (set t i v) i ≡ v
   s-same h e = getD-take m (set t i v) i 0 h ∙ getD-set-same t i v 0 (omega arith)
 
-  s-other : (u : ℕ) → i < m → u ≢ i → sucs m (set t i v) u ≡ sucs m t u
+  pub s-other : (u : ℕ) → i < m → u ≢ i → sucs m (set t i v) u ≡ sucs m t u
   s-other u h n = ap (λ (l : List ℕ). getD l u 0) (take-set-lt m t i v h) ∙ getD-set-other (take m t) i u v 0 n
 
-  s-high : (u : ℕ) → sucs m (set t (m + i) v) u ≡ sucs m t u
+  pub s-high : (u : ℕ) → sucs m (set t (m + i) v) u ≡ sucs m t u
   s-high u = ap (λ (l : List ℕ). getD l u 0) (take-set-le m t (m + i) v (omega arith))
 
-  p-same : i < m → length t ≡ 2 * m → pres m (set t (m + i) v) i ≡ v
+  pub p-same : i < m → length t ≡ 2 * m → pres m (set t (m + i) v) i ≡ v
   p-same h e = getD-set-same t (m + i) v 0 (omega arith)
 
-  p-other : (u : ℕ) → u ≢ i → pres m (set t (m + i) v) u ≡ pres m t u
+  pub p-other : (u : ℕ) → u ≢ i → pres m (set t (m + i) v) u ≡ pres m t u
   p-other u n = getD-set-other t (m + i) (m + u) v 0 (omega arith)
 
-  p-low : (u : ℕ) → i < m → pres m (set t i v) u ≡ pres m t u
+  pub p-low : (u : ℕ) → i < m → pres m (set t i v) u ≡ pres m t u
   p-low u h = getD-set-other t i (m + u) v 0 (omega arith)
 
-ruleset stores = (s-same, s-other, s-high, p-same, p-other, p-low, length-set)
+pub ruleset stores = (s-same, s-other, s-high, p-same, p-other, p-low, length-set)
 
 -- ---- the statements
 

@@ -42,6 +42,10 @@ joinBefore m x y p t = set (set (set (set t x y) (m + x) p) p x) (m + y) x
 unfoldable pub linkedBefore : ℕ → ℕ → ℕ → List ℕ → List ℕ
 linkedBefore m x y t = joinBefore m x y (getD t (m + y) 0) t
 
+-- SUC :- PRED :- this linkage, for a new head h
+unfoldable pub selfLinked : ℕ → ℕ → List ℕ → List ℕ
+selfLinked m h t = set (set t h h) (m + h) h
+
 -- how many steps lead from i to h, at most k
 unfoldable pub steps : List ℕ → ℕ → ℕ → ℕ → ℕ
 steps t h zero i = 0

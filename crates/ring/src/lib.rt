@@ -1,8 +1,11 @@
 // Two-way rings in a lent table of 2 × m words: the successor of i at i, its predecessor at m + i, 0 for none.
 // Core functions: callers have judged the table, or made it by these functions.
+pub mod judge;
+
 ghost use mathlib.Core.Path.{_≡_};
-ghost use Prim.Native.Nat.{_<_};
-ghost use Rattle.ring.specs.Table.{Sound, Made, unlinked, linkedBehind, linkedBefore, counted};
+ghost use Prim.Native.Nat.{_*_, _<_};
+ghost use lib.ListN.{length};
+ghost use Rattle.ring.specs.Table.{Sound, Made, unlinked, linkedBehind, linkedBefore, selfLinked, counted};
 
 // Takes x out of its ring; nothing where it stands in none.
 pub fn unlink(t: &mut [u32], m: usize, x: usize)
@@ -55,6 +58,16 @@ pub fn link_before(t: &mut [u32], m: usize, xw: u32, yw: u32)
     t[m + x] = pw;
     t[p] = xw;
     t[m + y] = xw;
+}
+
+// Makes h a head with an empty ring.
+pub fn start_ring(t: &mut [u32], m: usize, hw: u32)
+    requires { ⌜ (length (now t) ≡ 2 * m) × (hw < m) ⌝ }
+    ensures { λ _. ⌜ now (t .exit) ≡ selfLinked m hw (now (t .entry)) ⌝ }
+{
+    let h = hw as usize;
+    t[h] = hw;
+    t[m + h] = hw;
 }
 
 // A word of a table as a place.

@@ -1,0 +1,5 @@
+-- laws that the code's proofs cite
+pub mod Standing
+pub mod AxisCode
+pub mod Verdicts
+pub mod Filling

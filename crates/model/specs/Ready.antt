@@ -1,0 +1,67 @@
+-- What the core functions need of tables that were judged fine: ranges, and a first notice.
+use Prim.Native.Nat.{ℕ, zero, suc, _+_, _*_, _-_, _<_, _≤_}
+use mathlib.Core.Path.{_≡_, refl, sym, ap, _∙_}
+use mathlib.Core.Logic.{inl, ⊎-elim}
+use mathlib.Core.List.{List, [], _∷_}
+use native.Mathlib.Omega.{arith}
+use native.Mathlib.Nat.{not-suc-le-zero}
+use lib.ListN.{length, getD, List·getD-eq-default}
+use Rattle.ring.specs.Lists.{In, below, inside}
+use Rattle.ring.specs.Chain.{Chain}
+use Rattle.ring.specs.Table.{Sound}
+use Rattle.ring.specs.Stores.{sucs, pres, suc-at}
+use Rattle.ring.specs.Spell.{spells-sound}
+use Rattle.model.specs.declared.counts.Counts.{Counts}
+use Rattle.model.specs.declared.judge.Verdict.the-variants.{Fine}
+use Rattle.model.specs.Counts.{Allowed, total, limit}
+use Rattle.model.specs.Notices.{places}
+use Rattle.model.specs.Tables.{Tables, Lengths, Lists, Sized, setHead, axisHead, membersOf, Spells}
+use Rattle.model.specs.Judge.{judged}
+use Rattle.model.specs.AxisJudged.{axis-head, axis-event}
+use Rattle.model.specs.Formed.{axis-spelled}
+use Rattle.model.specs.Verdict.{judged-says}
+
+pub record Ready (c : Counts) (t : Tables) : Type 0 where
+  pub allowed : Allowed c
+  pub lengths : Lengths c t
+  pub links-sound : Sound (total c + 1) (t .links)
+  pub axis-sound : Sound (c .processes + 2) (t .axis)
+  pub times-in : (y : ℕ) → getD (t .times) y 0 ≤ limit
+  pub marks-in : (y : ℕ) → getD (t .marks) y 0 ≤ 1
+  pub first-some : 0 < getD (t .axis) (c .processes + 1) 0
+  pub first-in : getD (t .axis) (c .processes + 1) 0 ≤ c .processes
+
+pub formed-ready : (c : Counts) (l : Lists) (t : Tables) → Sized c t → Spells c l t → Ready c t
+formed-ready c l t z w =
+    let s = axis-spelled c l t w in
+    let f = first (places c (l .notices)) (s .some) (s .ring .rings .ring (c .processes + 1) (axis-head (c .processes)))
+    (axis-event (c .processes) (t .axis) (places c (l .notices)) (s .ring)) in
+    let at : sucs (c .processes + 2) (t .axis) (c .processes + 1) ≡ getD (t .axis) (c .processes + 1) 0 =
+    suc-at (c .processes + 2) (t .axis) (c .processes + 1) (omega arith) in
+    record {
+      allowed = z .allowed;
+      lengths = z .lengths;
+      links-sound = spells-sound (total c + 1) (setHead (c .heads)) (membersOf (l .sets)) (t .links) (w .links .spelled) (omega arith);
+      axis-sound = spells-sound (c .processes + 2) (axisHead (c .processes + 2)) (λ h. places c (l .notices)) (t .axis) (s .ring) (omega arith);
+      times-in = λ y.
+          below (c .processes) y
+          (λ b. omega (arith, List·getD-eq-default (t .times) 0 {n = y} (omega (arith, z .lengths .times-is))))
+          (λ b. inside y (places c (l .notices)) (λ k. s .limits y k) (λ out. omega (arith, s .idle-times y b out)));
+      marks-in = λ y.
+          below (c .processes) y
+          (λ b. omega (arith, List·getD-eq-default (t .marks) 0 {n = y} (omega (arith, z .lengths .marks-is))))
+          (λ b. ⊎-elim (λ e. omega arith) (λ v. omega (arith, v .0)) (s .marked y b));
+      first-some = omega (arith, f);
+      first-in = omega (arith, f);
+    }
+  where
+    first : (k : List ℕ) → 0 < length k → Chain (sucs (c .processes + 2) (t .axis)) (pres (c .processes + 2) (t .axis)) (c .processes + 1) k (c .processes + 1)
+        → ((y : ℕ) → In y k → (0 < y) × (y ≤ c .processes)) → (0 < sucs (c .processes + 2) (t .axis) (c .processes + 1)) × (sucs (c .processes + 2) (t .axis) (c .processes + 1) ≤ c .processes)
+    first [] p q g = absurd (not-suc-le-zero p)
+    first (z ∷ k) p q g = rw (q .0 .next) (g z (inl refl))
+
+-- a verdict that is fine hands the core functions what they need
+pub judged-ready : (c : Counts) (t : Tables) → judged c t ≡ Fine → Ready c t
+judged-ready c t e =
+    let b = judged-says c t .fine-only e in
+    formed-ready c (b .1 .0) t (b .0) (b .1 .1)
