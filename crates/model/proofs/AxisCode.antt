@@ -10,7 +10,7 @@ use lib.ListN.{length, getD}
 use borrow.Author.Tests.{eq-eqb, ne-eqb, not-true, not-false}
 use Rattle.ring.specs.Stores.{sucs, pres, suc-at}
 use Rattle.ring.specs.Judge.{idle, ringsFine}
-use Rattle.model.specs.Counts.{limit, and-off, and-on}
+use Rattle.counts.specs.Counts.{limit, and-off, and-on}
 use Rattle.model.specs.Judge.{timeFine, markFine, placesFine, axisFine}
 use Rattle.model.specs.Tests.{time-idle, time-past, time-last, time-next, mark-none, mark-other, mark-main, mark-idle, places-none, places-time, places-mark, places-on}
 

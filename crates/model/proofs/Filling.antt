@@ -12,11 +12,11 @@ use Rattle.ring.specs.Lists.{zeros}
 use Rattle.ring.specs.Table.{Sound, selfLinked, linkedBefore}
 use Rattle.ring.specs.Spell.{spells-sound}
 use Rattle.ring.specs.Empty.{length-zeros}
-use Rattle.model.specs.declared.counts.Counts.{Counts}
-use Rattle.model.specs.declared.refusal.Refusal.the-variants.{Size}
+use Rattle.counts.specs.declared.Counts.{Counts}
+use Rattle.counts.specs.declared.Refusal.the-variants.{Size}
 use Rattle.model.specs.declared.judge.Verdict.{Verdict}
 use Rattle.model.specs.declared.judge.Verdict.the-variants.{Fine, Refused}
-use Rattle.model.specs.Counts.{inLimits, total}
+use Rattle.counts.specs.Counts.{inLimits, total}
 use Rattle.model.specs.Tables.{Tables, After, Sized, axisHead}
 use Rattle.model.specs.Judge.{lengthsFine}
 use Rattle.model.specs.Fresh.{freshHeads, freshAxis, freshTables, freshed, heads-length, started}

@@ -7,10 +7,10 @@ use mathlib.Core.List.{List}
 use lib.Dec.{eqb}
 use lib.ListN.{length}
 use borrow.Author.Tests.{eq-eqb, ne-eqb, not-true, not-false}
-use Rattle.model.specs.declared.counts.Counts.{Counts}
-use Rattle.model.specs.declared.refusal.Refusal.the-variants.{Size, Malformed}
+use Rattle.counts.specs.declared.Counts.{Counts}
+use Rattle.counts.specs.declared.Refusal.the-variants.{Size, Malformed}
 use Rattle.model.specs.declared.judge.Verdict.the-variants.{Fine, Refused}
-use Rattle.model.specs.Counts.{total, and-off, and-on}
+use Rattle.counts.specs.Counts.{total, and-off, and-on}
 use Rattle.model.specs.Tables.{Tables}
 use Rattle.model.specs.Judge.{linksFine, axisFine, tablesFine, lengthsFine, positionsFine, positionsJudged}
 use Rattle.model.specs.Positions.{judged-length, judged-not, judged-fine}

@@ -9,7 +9,7 @@ use lib.Dec.{eqb, leb, ltb}
 use lib.ListN.{length, getD}
 use lib.Seq.{getD-take}
 use borrow.Author.Tests.{eq-eqb, ne-eqb, eqb-true, eqb-false}
-use Rattle.model.specs.Counts.{limit, both}
+use Rattle.counts.specs.Counts.{limit, both}
 use Rattle.ring.specs.Lists.{if_then_else_, In, decide, below, test, clash}
 use Rattle.ring.specs.Chain.{Edge, Chain, next-in}
 use Rattle.ring.specs.Rings.{Head, Link, Rings, apart, rings-cong, free}

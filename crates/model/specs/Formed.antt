@@ -14,8 +14,8 @@ use Rattle.ring.specs.Stores.{sucs, pres}
 use Rattle.ring.specs.Spell.{spells-dist}
 use Rattle.ring.specs.Rows.{Layout}
 use Rattle.ring.specs.Fine.{sound, complete}
-use Rattle.model.specs.declared.counts.Counts.{Counts}
-use Rattle.model.specs.Counts.{total, main, both, and-on}
+use Rattle.counts.specs.declared.Counts.{Counts}
+use Rattle.counts.specs.Counts.{total, main, both, and-on}
 use Rattle.model.specs.Notices.{Notice, whos, places, dueOf}
 use Rattle.model.specs.Tabulate.{has, bit, table-at, at-table, has-in}
 use Rattle.model.specs.Tables.{Tables, Lengths, Lists, setHead, axisHead, SpellsSets, Spells, WellFormed}

@@ -15,11 +15,11 @@ use Rattle.ring.specs.Stores.{sucs, pres, suc-at}
 use Rattle.ring.specs.Spell.{spells-before, spells-cong}
 use Rattle.ring.specs.Spell as ring
 use Rattle.ring.specs.Empty.{spells-empty, length-zeros, getD-zeros, self-length, self-s, self-p, other-s, other-p}
-use Rattle.model.specs.declared.counts.Counts.{Counts}
-use Rattle.model.specs.declared.refusal.Refusal.the-variants.{Size}
+use Rattle.counts.specs.declared.Counts.{Counts}
+use Rattle.counts.specs.declared.Refusal.the-variants.{Size}
 use Rattle.model.specs.declared.judge.Verdict.{Verdict}
 use Rattle.model.specs.declared.judge.Verdict.the-variants.{Fine, Refused}
-use Rattle.model.specs.Counts.{inLimits, Allowed, total, main, limit}
+use Rattle.counts.specs.Counts.{inLimits, Allowed, total, main, limit}
 use Rattle.model.specs.Notices.{Notice, dueOf}
 use Rattle.model.specs.Tabulate.{listed, has, at-table}
 use Rattle.model.specs.Tables.{Tables, Lists, Lengths, Sized, After, setHead, axisHead, membersOf, SpellsSets, SpellsAxis, Spells}

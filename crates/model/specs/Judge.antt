@@ -8,11 +8,11 @@ use lib.ListN.{length, getD}
 use Rattle.ring.specs.Lists.{if_then_else_}
 use Rattle.ring.specs.Stores.{sucs, pres}
 use Rattle.ring.specs.Judge.{idle, ringsFine}
-use Rattle.model.specs.declared.counts.Counts.{Counts}
-use Rattle.model.specs.declared.refusal.Refusal.the-variants.{Size, Malformed}
+use Rattle.counts.specs.declared.Counts.{Counts}
+use Rattle.counts.specs.declared.Refusal.the-variants.{Size, Malformed}
 use Rattle.model.specs.declared.judge.Verdict.{Verdict}
 use Rattle.model.specs.declared.judge.Verdict.the-variants.{Fine, Refused}
-use Rattle.model.specs.Counts.{inLimits, total, limit}
+use Rattle.counts.specs.Counts.{inLimits, total, limit}
 use Rattle.model.specs.Tables.{Tables}
 
 -- the links' table: the rings of the heads 1 .. H over the links H + 1 .. N, with m = N + 1

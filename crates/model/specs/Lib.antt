@@ -1,6 +1,4 @@
--- Counts, refusals, what lent tables spell, and what the judge of them answers.
-pub mod Refusals
-pub mod Counts
+-- What lent tables spell, what the judge of them answers, and the fresh model.
 pub mod Tabulate
 pub mod Notices
 pub mod Tables

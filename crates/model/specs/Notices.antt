@@ -5,8 +5,8 @@ use mathlib.Core.Bool.{Bool, true, false}
 use mathlib.Core.List.{List, [], _∷_, map}
 use lib.Dec.{eqb}
 use Rattle.ring.specs.Lists.{if_then_else_}
-use Rattle.model.specs.declared.counts.Counts.{Counts}
-use Rattle.model.specs.Counts.{limit, placeOf}
+use Rattle.counts.specs.declared.Counts.{Counts}
+use Rattle.counts.specs.Counts.{limit, placeOf}
 
 -- a process's number and its event time
 pub record Notice : Type 0 where

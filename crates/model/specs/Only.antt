@@ -10,8 +10,8 @@ use lib.Seq.{ext-getD}
 use borrow.Author.Tests.{le-leb}
 use Rattle.ring.specs.Lists.{In}
 use Rattle.ring.specs.Spell.{spells-one}
-use Rattle.model.specs.declared.counts.Counts.{Counts}
-use Rattle.model.specs.Counts.{total}
+use Rattle.counts.specs.declared.Counts.{Counts}
+use Rattle.counts.specs.Counts.{total}
 use Rattle.model.specs.Notices.{Notice, whos, places}
 use Rattle.model.specs.Tabulate.{has, bit, table-at, has-in, in-has, bit-one}
 use Rattle.model.specs.Tables.{Tables, Lists, setHead, axisHead, membersOf, SpellsSets, Spells}

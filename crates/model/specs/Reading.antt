@@ -10,8 +10,8 @@ use lib.ListN.{length, getD}
 use borrow.Author.Tests.{eq-eqb, ne-eqb}
 use Rattle.ring.specs.Lists.{if_then_else_, In, decide, test}
 use Rattle.ring.specs.Distinct.{Dist}
-use Rattle.model.specs.declared.counts.Counts.{Counts}
-use Rattle.model.specs.Counts.{limit}
+use Rattle.counts.specs.declared.Counts.{Counts}
+use Rattle.counts.specs.Counts.{limit}
 use Rattle.model.specs.Notices.{Notice, whos, places, dueOf, From, InOrder, Within}
 use Rattle.model.specs.Tabulate.{has, bit, has-in, in-has}
 use Rattle.model.specs.Tests.{NeverFall}

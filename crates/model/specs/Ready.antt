@@ -11,9 +11,9 @@ use Rattle.ring.specs.Chain.{Chain}
 use Rattle.ring.specs.Table.{Sound}
 use Rattle.ring.specs.Stores.{sucs, pres, suc-at}
 use Rattle.ring.specs.Spell.{spells-sound}
-use Rattle.model.specs.declared.counts.Counts.{Counts}
+use Rattle.counts.specs.declared.Counts.{Counts}
 use Rattle.model.specs.declared.judge.Verdict.the-variants.{Fine}
-use Rattle.model.specs.Counts.{Allowed, total, limit}
+use Rattle.counts.specs.Counts.{Allowed, total, limit}
 use Rattle.model.specs.Notices.{places}
 use Rattle.model.specs.Tables.{Tables, Lengths, Lists, Sized, setHead, axisHead, membersOf, Spells}
 use Rattle.model.specs.Judge.{judged}

@@ -8,8 +8,8 @@ use lib.Dec.{leb, eqb}
 use lib.ListN.{length, getD}
 use Rattle.ring.specs.Lists.{In}
 use Rattle.ring.specs.Spell as ring
-use Rattle.model.specs.declared.counts.Counts.{Counts}
-use Rattle.model.specs.Counts.{Allowed, total, main}
+use Rattle.counts.specs.declared.Counts.{Counts}
+use Rattle.counts.specs.Counts.{Allowed, total, main}
 use Rattle.model.specs.Notices.{Notice, whos, places, dueOf, InOrder, Within}
 use Rattle.model.specs.Tabulate.{listed, has, bit}
 

@@ -8,7 +8,7 @@ use native.Mathlib.Omega.{arith}
 use lib.Dec.{eqb, leb, ltb}
 use lib.ListN.{length, getD}
 use borrow.Author.Tests.{eq-eqb, ne-eqb, eqb-true, le-leb, lt-leb, leb-true, lt-ltb, le-ltb}
-use Rattle.model.specs.Counts.{limit, both}
+use Rattle.counts.specs.Counts.{limit, both}
 use Rattle.ring.specs.Lists.{if_then_else_, In, decide, below, test, clash}
 use Rattle.ring.specs.Chain.{Edge, Chain}
 use Rattle.ring.specs.Judge.{idle}

@@ -9,11 +9,11 @@ use lib.Dec.{eqb}
 use lib.ListN.{length}
 use borrow.Author.Tests.{eq-eqb, eqb-true, not-true, not-false}
 use Rattle.ring.specs.Lists.{if_then_else_, test, clash}
-use Rattle.model.specs.declared.counts.Counts.{Counts}
-use Rattle.model.specs.declared.refusal.Refusal.the-variants.{Size, Malformed}
+use Rattle.counts.specs.declared.Counts.{Counts}
+use Rattle.counts.specs.declared.Refusal.the-variants.{Size, Malformed}
 use Rattle.model.specs.declared.judge.Verdict.{Verdict}
 use Rattle.model.specs.declared.judge.Verdict.the-variants.{Fine, Refused}
-use Rattle.model.specs.Counts.{inLimits, total, both, and-on, limits-allowed, allowed-limits}
+use Rattle.counts.specs.Counts.{inLimits, total, both, and-on, limits-allowed, allowed-limits}
 use Rattle.model.specs.Tables.{Tables, Lengths, Sized, WellFormed}
 use Rattle.model.specs.Judge.{lengthsFine, tablesFine, judged}
 use Rattle.model.specs.Formed.{tables-sound, tables-complete}

@@ -1,8 +1,8 @@
 // The fresh model: empty sets and one notice, main at 0.
-use crate::counts::Counts;
 use crate::judge::Verdict;
 use crate::judge::lengths_fine;
-use crate::refusal::Refusal;
+use counts::Counts;
+use counts::Refusal;
 use ring::link_before;
 use ring::start_ring;
 use ring::wide;
@@ -14,7 +14,7 @@ ghost use Rattle.model.specs.Tables.{Sized};
 ghost use Rattle.model.specs.Fresh.{freshHeads, freshAxis, freshTables, freshed};
 
 // Zeros in every word, at three widths; their proofs cite one law.
-pub fn clear_words(t: &mut [u32])
+fn clear_words(t: &mut [u32])
     ensures { λ _. ⌜ now (t .exit) ≡ zeros (length (now (t .entry))) ⌝ }
 {
     let mut i: usize = 0;
@@ -24,7 +24,7 @@ pub fn clear_words(t: &mut [u32])
     }
 }
 
-pub fn clear_times(t: &mut [u64])
+fn clear_times(t: &mut [u64])
     ensures { λ _. ⌜ now (t .exit) ≡ zeros (length (now (t .entry))) ⌝ }
 {
     let mut i: usize = 0;
@@ -34,7 +34,7 @@ pub fn clear_times(t: &mut [u64])
     }
 }
 
-pub fn clear_bytes(t: &mut [u8])
+fn clear_bytes(t: &mut [u8])
     ensures { λ _. ⌜ now (t .exit) ≡ zeros (length (now (t .entry))) ⌝ }
 {
     let mut i: usize = 0;

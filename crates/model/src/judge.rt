@@ -1,7 +1,7 @@
 // The judge of a model's lent tables: refusals 1 and 2.
-use crate::counts::Counts;
-use crate::counts::TIME_LIMIT;
-use crate::refusal::Refusal;
+use counts::Counts;
+use counts::Refusal;
+use counts::TIME_LIMIT;
 use ring::judge::is_idle;
 use ring::judge::rings_fine;
 use ring::wide;
@@ -9,7 +9,7 @@ ghost use mathlib.Core.Path.{_≡_};
 ghost use Prim.Native.Nat.{_+_, _*_, _<_, _≤_};
 ghost use lib.ListN.{length};
 ghost use Rattle.ring.specs.Stores.{sucs, pres};
-ghost use Rattle.model.specs.Counts.{Allowed};
+ghost use Rattle.counts.specs.Counts.{Allowed};
 ghost use Rattle.model.specs.Tables.{Sized};
 ghost use Rattle.model.specs.Judge.{linksFine, timeFine, markFine, placesFine, axisFine, tablesFine, lengthsFine, judged, positionsFine, positionsJudged};
 ghost use Rattle.model.specs.Tests.{Three};

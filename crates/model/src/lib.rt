@@ -1,5 +1,3 @@
-// A model's counts, refusals, lent tables, and the judge of these.
-pub mod counts;
+// A model's lent tables: their judge, and the fresh model.
 pub mod fresh;
 pub mod judge;
-pub mod refusal;

@@ -5,8 +5,6 @@ use borrow.Author.Needs.{needs}
 use native.Mathlib.Omega.{arith}
 use Rattle.ring.proofs.start_ring.Statement.{statement}
 use Rattle.ring.proofs.start_ring.Tie as tie
-use Rattle.ring.proofs.start_ring.Reads as reads
-use Rattle.ring.proofs.start_ring.Lts as lts
 
 mul-t : tie.Need-mul-t
 mul-t c = search needs

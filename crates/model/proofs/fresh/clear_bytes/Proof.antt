@@ -5,8 +5,6 @@ use borrow.Author.Needs.{needs}
 use native.Mathlib.Omega.{arith}
 use Rattle.model.proofs.fresh.clear_bytes.Statement.{statement}
 use Rattle.model.proofs.fresh.clear_bytes.Tie as tie
-use Rattle.model.proofs.fresh.clear_bytes.Reads as reads
-use Rattle.model.proofs.fresh.clear_bytes.Lts as lts
 
 abbrev Inv-loop : tie.InvT-loop
 Inv-loop t₀ i₀ t i = Zeroed t₀ t i

@@ -5,8 +5,6 @@ use borrow.Author.Needs.{needs}
 use native.Mathlib.Omega.{arith}
 use Rattle.model.proofs.fresh.clear_times.Statement.{statement}
 use Rattle.model.proofs.fresh.clear_times.Tie as tie
-use Rattle.model.proofs.fresh.clear_times.Reads as reads
-use Rattle.model.proofs.fresh.clear_times.Lts as lts
 
 abbrev Inv-loop : tie.InvT-loop
 Inv-loop t₀ i₀ t i = Zeroed t₀ t i

@@ -1,16 +1,7 @@
 use Rattle.model.proofs.Filling.{links-are, filled}
 use borrow.Author.Needs.{needs}
-use native.Mathlib.Omega.{arith}
 use Rattle.model.proofs.fresh.fill.Statement.{statement}
 use Rattle.model.proofs.fresh.fill.Tie as tie
-use Rattle.model.proofs.fresh.fill.Reads as reads
-use Rattle.model.proofs.fresh.fill.Lts as lts
-use Rattle.model.proofs.counts.Counts.total.Reads as total-reads
-use Rattle.model.proofs.fresh.clear_bytes.Reads as clear-bytes-reads
-use Rattle.model.proofs.fresh.clear_times.Reads as clear-times-reads
-use Rattle.model.proofs.fresh.clear_words.Reads as clear-words-reads
-use Rattle.model.proofs.fresh.start_axis.Reads as start-axis-reads
-use Rattle.model.proofs.fresh.start_heads.Reads as start-heads-reads
 
 total-requires : tie.Need-total-requires
 total-requires c κs = search needs

@@ -1,14 +1,8 @@
 use Rattle.model.proofs.Filling.{fresh-limits, fresh-lengths, fresh-filled}
 use Rattle.model.specs.Verdict.{verdict-sized}
 use borrow.Author.Needs.{needs}
-use native.Mathlib.Omega.{arith}
 use Rattle.model.proofs.fresh.fresh.Statement.{statement}
 use Rattle.model.proofs.fresh.fresh.Tie as tie
-use Rattle.model.proofs.fresh.fresh.Reads as reads
-use Rattle.model.proofs.fresh.fresh.Lts as lts
-use Rattle.model.proofs.counts.Counts.within_limits.Reads as within-limits-reads
-use Rattle.model.proofs.fresh.fill.Reads as fill-reads
-use Rattle.model.proofs.judge.lengths_fine.Reads as lengths-fine-reads
 
 within-limits-requires : tie.Need-within-limits-requires
 within-limits-requires c κs = search needs

@@ -2,15 +2,8 @@ use Prim.Native.Nat.{ℕ, _+_}
 use mathlib.Core.Path.{ap, refl}
 use Rattle.model.proofs.Filling.{axis-length, axis-sound, axis-is}
 use borrow.Author.Needs.{needs}
-use native.Mathlib.Omega.{arith}
 use Rattle.model.proofs.fresh.start_axis.Statement.{statement}
 use Rattle.model.proofs.fresh.start_axis.Tie as tie
-use Rattle.model.proofs.fresh.start_axis.Reads as reads
-use Rattle.model.proofs.fresh.start_axis.Lts as lts
-use Rattle.model.proofs.fresh.clear_words.Reads as clear-words-reads
-use Rattle.ring.proofs.link_before.Reads as link-before-reads
-use Rattle.ring.proofs.start_ring.Reads as start-ring-reads
-use Rattle.ring.proofs.wide.Reads as wide-reads
 
 wide-requires : tie.Need-wide-requires
 wide-requires c κs = search needs

@@ -5,9 +5,6 @@ use borrow.Author.Needs.{needs}
 use native.Mathlib.Omega.{arith}
 use Rattle.model.proofs.fresh.start_heads.Statement.{statement}
 use Rattle.model.proofs.fresh.start_heads.Tie as tie
-use Rattle.model.proofs.fresh.start_heads.Reads as reads
-use Rattle.model.proofs.fresh.start_heads.Lts as lts
-use Rattle.ring.proofs.start_ring.Reads as start-ring-reads
 
 abbrev Inv-loop : tie.InvT-loop
 Inv-loop t₀ m heads h₀ t h = Started m t₀ t heads h

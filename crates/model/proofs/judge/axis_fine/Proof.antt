@@ -1,6 +1,5 @@
 use Rattle.model.proofs.AxisCode.{axis-time, axis-mark, axis-rings, axis-empty, axis-rest}
 use borrow.Author.Needs.{needs}
-use native.Mathlib.Omega.{arith}
 use Rattle.model.proofs.judge.axis_fine.Statement.{statement}
 use Rattle.model.proofs.judge.axis_fine.Tie as tie
 

@@ -1,12 +1,7 @@
 use Rattle.model.proofs.Verdicts.{positions-length, positions-not, positions-fine}
 use borrow.Author.Needs.{needs}
-use native.Mathlib.Omega.{arith}
 use Rattle.model.proofs.judge.judge_positions.Statement.{statement}
 use Rattle.model.proofs.judge.judge_positions.Tie as tie
-use Rattle.model.proofs.judge.judge_positions.Reads as reads
-use Rattle.model.proofs.judge.judge_positions.Lts as lts
-use Rattle.model.proofs.judge.positions_fine.Reads as positions-fine-reads
-use Rattle.ring.proofs.wide.Reads as wide-reads
 
 wide-requires : tie.Need-wide-requires
 wide-requires c κs = search needs

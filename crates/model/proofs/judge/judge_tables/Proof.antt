@@ -1,13 +1,7 @@
 use Rattle.model.specs.Verdict.{verdict-limits, verdict-lengths, verdict-sized, verdict-formed, verdict-fine}
 use borrow.Author.Needs.{needs}
-use native.Mathlib.Omega.{arith}
 use Rattle.model.proofs.judge.judge_tables.Statement.{statement}
 use Rattle.model.proofs.judge.judge_tables.Tie as tie
-use Rattle.model.proofs.judge.judge_tables.Reads as reads
-use Rattle.model.proofs.judge.judge_tables.Lts as lts
-use Rattle.model.proofs.counts.Counts.within_limits.Reads as within-limits-reads
-use Rattle.model.proofs.judge.lengths_fine.Reads as lengths-fine-reads
-use Rattle.model.proofs.judge.tables_fine.Reads as tables-fine-reads
 
 within-limits-requires : tie.Need-within-limits-requires
 within-limits-requires c κs = search needs

@@ -1,12 +1,7 @@
 use Rattle.model.proofs.Verdicts.{lengths-links, lengths-axis, lengths-times, lengths-marks}
 use borrow.Author.Needs.{needs}
-use native.Mathlib.Omega.{arith}
 use Rattle.model.proofs.judge.lengths_fine.Statement.{statement}
 use Rattle.model.proofs.judge.lengths_fine.Tie as tie
-use Rattle.model.proofs.judge.lengths_fine.Reads as reads
-use Rattle.model.proofs.judge.lengths_fine.Lts as lts
-use Rattle.model.proofs.counts.Counts.total.Reads as total-reads
-use Rattle.ring.proofs.wide.Reads as wide-reads
 
 total-requires : tie.Need-total-requires
 total-requires c κs = search needs

@@ -1,7 +1,6 @@
 use mathlib.Core.Path.{sym, _∙_}
 use Rattle.model.specs.Tests.{mark-none, mark-other, mark-main, mark-idle}
 use borrow.Author.Needs.{needs}
-use native.Mathlib.Omega.{arith}
 use Rattle.model.proofs.judge.mark_fine.Statement.{statement}
 use Rattle.model.proofs.judge.mark_fine.Tie as tie
 

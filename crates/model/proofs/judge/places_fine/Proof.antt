@@ -1,7 +1,5 @@
-use Prim.Native.Nat.{_+_, _-_, _<_, _≤_}
 use Rattle.model.proofs.AxisCode.{Places, places-start, places-out, places-late, places-marked, places-turn}
 use borrow.Author.Needs.{needs}
-use native.Mathlib.Omega.{arith}
 use Rattle.model.proofs.judge.places_fine.Statement.{statement}
 use Rattle.model.proofs.judge.places_fine.Tie as tie
 

@@ -1,7 +1,5 @@
-use Prim.Native.Nat.{_+_, _-_, _<_, _≤_}
 use Rattle.model.proofs.Standing.{Stands, stands-start, stands-past, stands-turn, stands-out}
 use borrow.Author.Needs.{needs}
-use native.Mathlib.Omega.{arith}
 use Rattle.model.proofs.judge.positions_fine.Statement.{statement}
 use Rattle.model.proofs.judge.positions_fine.Tie as tie
 

@@ -1,14 +1,7 @@
 use Rattle.model.proofs.Verdicts.{tables-not, tables-rest}
 use borrow.Author.Needs.{needs}
-use native.Mathlib.Omega.{arith}
 use Rattle.model.proofs.judge.tables_fine.Statement.{statement}
 use Rattle.model.proofs.judge.tables_fine.Tie as tie
-use Rattle.model.proofs.judge.tables_fine.Reads as reads
-use Rattle.model.proofs.judge.tables_fine.Lts as lts
-use Rattle.model.proofs.counts.Counts.total.Reads as total-reads
-use Rattle.model.proofs.judge.axis_fine.Reads as axis-fine-reads
-use Rattle.model.proofs.judge.links_fine.Reads as links-fine-reads
-use Rattle.ring.proofs.wide.Reads as wide-reads
 
 total-requires : tie.Need-total-requires
 total-requires c κs = search needs

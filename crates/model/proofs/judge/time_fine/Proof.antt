@@ -1,6 +1,5 @@
 use Rattle.model.proofs.AxisCode.{t-idle, t-past, t-last, t-next}
 use borrow.Author.Needs.{needs}
-use native.Mathlib.Omega.{arith}
 use Rattle.model.proofs.judge.time_fine.Statement.{statement}
 use Rattle.model.proofs.judge.time_fine.Tie as tie
 

@@ -1,0 +1,3 @@
+-- Counts, kinds of numbers, and the papers' numbers of refusals.
+pub mod Refusals
+pub mod Counts
