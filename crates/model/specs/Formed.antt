@@ -17,7 +17,7 @@ use Rattle.ring.specs.Fine.{sound, complete}
 use Rattle.counts.specs.declared.Counts.{Counts}
 use Rattle.counts.specs.Counts.{total, main, both, and-on}
 use Rattle.model.specs.Notices.{Notice, whos, places, dueOf}
-use Rattle.model.specs.Tabulate.{has, bit, table-at, at-table, has-in}
+use Rattle.ring.specs.Tabulate.{has, bit, table-at, at-table, has-in}
 use Rattle.model.specs.Tables.{Tables, Lengths, Lists, setHead, axisHead, SpellsSets, Spells, WellFormed}
 use Rattle.model.specs.Judge.{linksFine, axisFine, tablesFine}
 use Rattle.model.specs.AxisJudged.{AxisSpelled, axis-sound, axis-complete, axis-head, axis-event}

@@ -21,7 +21,7 @@ use Rattle.model.specs.declared.judge.Verdict.{Verdict}
 use Rattle.model.specs.declared.judge.Verdict.the-variants.{Fine, Refused}
 use Rattle.counts.specs.Counts.{inLimits, Allowed, total, main, limit}
 use Rattle.model.specs.Notices.{Notice, dueOf}
-use Rattle.model.specs.Tabulate.{listed, has, at-table}
+use Rattle.ring.specs.Tabulate.{listed, has, at-table}
 use Rattle.model.specs.Tables.{Tables, Lists, Lengths, Sized, After, setHead, axisHead, membersOf, SpellsSets, SpellsAxis, Spells}
 use Rattle.model.specs.Judge.{lengthsFine}
 use Rattle.model.specs.AxisJudged.{axis-head, axis-layout}

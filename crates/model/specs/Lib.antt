@@ -1,5 +1,4 @@
 -- What lent tables spell, what the judge of them answers, and the fresh model.
-pub mod Tabulate
 pub mod Notices
 pub mod Tables
 pub mod Judge
@@ -12,3 +11,4 @@ pub mod Verdict
 pub mod Ready
 pub mod Positions
 pub mod Fresh
+pub mod Answers

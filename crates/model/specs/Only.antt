@@ -13,7 +13,7 @@ use Rattle.ring.specs.Spell.{spells-one}
 use Rattle.counts.specs.declared.Counts.{Counts}
 use Rattle.counts.specs.Counts.{total}
 use Rattle.model.specs.Notices.{Notice, whos, places}
-use Rattle.model.specs.Tabulate.{has, bit, table-at, has-in, in-has, bit-one}
+use Rattle.ring.specs.Tabulate.{has, bit, table-at, has-in, in-has, bit-one}
 use Rattle.model.specs.Tables.{Tables, Lists, setHead, axisHead, membersOf, SpellsSets, Spells}
 use Rattle.model.specs.AxisJudged.{axis-head}
 use Rattle.model.specs.Reading.{noticesOf, notices-are}

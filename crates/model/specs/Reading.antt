@@ -13,7 +13,7 @@ use Rattle.ring.specs.Distinct.{Dist}
 use Rattle.counts.specs.declared.Counts.{Counts}
 use Rattle.counts.specs.Counts.{limit}
 use Rattle.model.specs.Notices.{Notice, whos, places, dueOf, From, InOrder, Within}
-use Rattle.model.specs.Tabulate.{has, bit, has-in, in-has}
+use Rattle.ring.specs.Tabulate.{has, bit, has-in, in-has}
 use Rattle.model.specs.Tests.{NeverFall}
 
 -- ---- from events to notices

@@ -11,7 +11,7 @@ use Rattle.ring.specs.Spell as ring
 use Rattle.counts.specs.declared.Counts.{Counts}
 use Rattle.counts.specs.Counts.{Allowed, total, main}
 use Rattle.model.specs.Notices.{Notice, whos, places, dueOf, InOrder, Within}
-use Rattle.model.specs.Tabulate.{listed, has, bit}
+use Rattle.ring.specs.Tabulate.{listed, has, bit}
 
 -- the four tables of a model, as lists of their words
 pub record Tables : Type 0 where

@@ -1,0 +1,7 @@
+// Model sheets: the layout check, and records read where they lie.
+pub mod check;
+pub mod fields;
+pub mod header;
+pub mod operations;
+pub mod records;
+pub mod words;

@@ -1,0 +1,2 @@
+-- laws that the proofs of the code cite
+pub mod Moving

@@ -1,0 +1,50 @@
+use Rattle.simset.specs.Promise.{link-in, head-in, none-or, moved-not, moved, passed, first-failed, second-failed, both-passed}
+use Rattle.simset.specs.Calls.{intoStep}
+use borrow.Author.Needs.{needs}
+use native.Mathlib.Omega.{arith}
+use Rattle.simset.proofs.steps.into.Statement.{statement}
+use Rattle.simset.proofs.steps.into.Tie as tie
+
+is-link-requires : tie.Need-is-link-requires
+is-link-requires c κs = search needs
+
+returns : tie.Need-returns
+unfolding intoStep
+returns c = moved-not _ _ _ _ (c .before .before .before .pre) (first-failed _ _ _ (c .before .is-link .ensures) (c .if1 .taken))
+
+head-or-none-requires : tie.Need-head-or-none-requires
+head-or-none-requires c κs = search needs
+
+returns-2 : tie.Need-returns-2
+unfolding intoStep
+returns-2 c = moved-not _ _ _ _ (c .before .before .before .before .before .pre) (second-failed _ _ _ _ (c .before .before .before .is-link .ensures) (c .before .before .if1 .left) (c .before .head-or-none .ensures) (c .if2 .taken))
+
+total-requires : tie.Need-total-requires
+total-requires c κs = search needs
+
+add-precede : tie.Need-add-precede
+add-precede c = search needs
+
+precede-requires : tie.Need-precede-requires
+precede-requires c κs = (rw (c .before .total .ensures) (c .before .before .before .before .before .before .before .pre), (omega (arith, c .before .total .ensures, link-in (c .before .before .before .before .before .before .before .args .c) (c .before .before .before .before .before .before .before .args .x) (passed _ _ (c .before .before .before .before .before .is-link .ensures) (c .before .before .before .before .if1 .left))), omega (arith, c .before .total .ensures, none-or _ (c .before .before .before .before .before .before .before .args .y) _ (head-in (c .before .before .before .before .before .before .before .args .c) (c .before .before .before .before .before .before .before .args .y)) (passed _ _ (c .before .before .before .head-or-none .ensures) (c .before .before .if2 .left)))))
+
+same-length : tie.Need-same-length
+same-length c = search needs
+
+returns-3 : tie.Need-returns-3
+unfolding intoStep
+returns-3 c = moved _ _ _ _ _ (both-passed _ _ _ _ (c .before .before .before .before .before .before .before .before .is-link .ensures) (c .before .before .before .before .before .before .before .if1 .left) (c .before .before .before .before .before .before .head-or-none .ensures) (c .before .before .before .before .before .if2 .left)) (rw (c .before .before .before .before .total .ensures) at (c .before .before .precede .ensures))
+
+pub into-spec : {M : Type 1} → statement M
+into-spec =
+    tie.close
+    (tie.spec
+    is-link-requires
+    returns
+    head-or-none-requires
+    returns-2
+    total-requires
+    add-precede
+    precede-requires
+    same-length
+    returns-3)

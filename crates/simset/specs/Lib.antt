@@ -1,0 +1,6 @@
+-- The sets of SIMSET: on plain lists, as published procedures on a table, and as calls.
+pub mod Sets
+pub mod Procedures
+pub mod Calls
+pub mod Moves
+pub mod Promise

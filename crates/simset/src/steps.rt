@@ -1,0 +1,184 @@
+// The set calls on the links of a judged model: refusal 3 by the operands' kinds, or the procedure. Runs use these too.
+use crate::procedures;
+use counts::Counts;
+use counts::Refusal;
+use model::answer::Answer;
+use ring::count;
+use ring::unlink;
+use ring::wide;
+ghost use mathlib.Core.Path.{_≡_};
+ghost use Prim.Native.Nat.{_+_};
+ghost use Rattle.ring.specs.Table.{Sound};
+ghost use Rattle.counts.specs.Counts.{total, isHead, isLinkage};
+ghost use Rattle.simset.specs.Calls.{orNone, outStep, followStep, precedeStep, intoStep, clearStep, firstTold, lastTold, sucTold, predTold, emptyTold, cardinalTold};
+ghost use Rattle.simset.specs.Promise.{Moved};
+
+// A linkage, or none.
+pub fn linkage_or_none(c: Counts, y: u32) -> bool
+    ensures { λ r. ⌜ r ≡ orNone (isLinkage c y) y ⌝ }
+{
+    if y == 0 {
+        return true;
+    }
+    c.is_linkage(y)
+}
+
+// A head, or none.
+pub fn head_or_none(c: Counts, y: u32) -> bool
+    ensures { λ r. ⌜ r ≡ orNone (isHead c y) y ⌝ }
+{
+    if y == 0 {
+        return true;
+    }
+    c.is_head(y)
+}
+
+pub fn out(c: Counts, links: &mut [u32], x: u32) -> Answer
+    requires { ⌜ Sound (total c + 1) (now links) ⌝ }
+    ensures { λ r. ⌜ Moved (total c + 1) (outStep c x (now (links .entry))) (record { links = now (links .exit); answer = r }) ⌝ }
+{
+    let ok = c.is_link(x);
+    if !ok {
+        return Answer::Refused(Refusal::Operand);
+    }
+    let n = c.total();
+    unlink(links, n + 1, wide(x));
+    Answer::Done
+}
+
+pub fn follow(c: Counts, links: &mut [u32], x: u32, y: u32) -> Answer
+    requires { ⌜ Sound (total c + 1) (now links) ⌝ }
+    ensures { λ r. ⌜ Moved (total c + 1) (followStep c x y (now (links .entry))) (record { links = now (links .exit); answer = r }) ⌝ }
+{
+    let a = c.is_link(x);
+    if !a {
+        return Answer::Refused(Refusal::Operand);
+    }
+    let b = linkage_or_none(c, y);
+    if !b {
+        return Answer::Refused(Refusal::Operand);
+    }
+    let n = c.total();
+    procedures::follow(links, n + 1, x, y);
+    Answer::Done
+}
+
+pub fn precede(c: Counts, links: &mut [u32], x: u32, y: u32) -> Answer
+    requires { ⌜ Sound (total c + 1) (now links) ⌝ }
+    ensures { λ r. ⌜ Moved (total c + 1) (precedeStep c x y (now (links .entry))) (record { links = now (links .exit); answer = r }) ⌝ }
+{
+    let a = c.is_link(x);
+    if !a {
+        return Answer::Refused(Refusal::Operand);
+    }
+    let b = linkage_or_none(c, y);
+    if !b {
+        return Answer::Refused(Refusal::Operand);
+    }
+    let n = c.total();
+    procedures::precede(links, n + 1, x, y);
+    Answer::Done
+}
+
+pub fn into(c: Counts, links: &mut [u32], x: u32, y: u32) -> Answer
+    requires { ⌜ Sound (total c + 1) (now links) ⌝ }
+    ensures { λ r. ⌜ Moved (total c + 1) (intoStep c x y (now (links .entry))) (record { links = now (links .exit); answer = r }) ⌝ }
+{
+    let a = c.is_link(x);
+    if !a {
+        return Answer::Refused(Refusal::Operand);
+    }
+    let b = head_or_none(c, y);
+    if !b {
+        return Answer::Refused(Refusal::Operand);
+    }
+    let n = c.total();
+    procedures::precede(links, n + 1, x, y);
+    Answer::Done
+}
+
+pub fn clear(c: Counts, links: &mut [u32], x: u32) -> Answer
+    requires { ⌜ Sound (total c + 1) (now links) ⌝ }
+    ensures { λ r. ⌜ Moved (total c + 1) (clearStep c x (now (links .entry))) (record { links = now (links .exit); answer = r }) ⌝ }
+{
+    let ok = c.is_head(x);
+    if !ok {
+        return Answer::Refused(Refusal::Operand);
+    }
+    let n = c.total();
+    procedures::clear(links, n + 1, wide(x));
+    Answer::Done
+}
+
+pub fn first(c: Counts, links: &[u32], x: u32) -> Answer
+    requires { ⌜ Sound (total c + 1) (now links) ⌝ }
+    ensures { λ r. ⌜ r ≡ firstTold c x (now (links .entry)) ⌝ }
+{
+    let ok = c.is_head(x);
+    if !ok {
+        return Answer::Refused(Refusal::Operand);
+    }
+    let i = wide(x);
+    Answer::Linkage(procedures::link_or(c.heads, links[i]))
+}
+
+pub fn last(c: Counts, links: &[u32], x: u32) -> Answer
+    requires { ⌜ Sound (total c + 1) (now links) ⌝ }
+    ensures { λ r. ⌜ r ≡ lastTold c x (now (links .entry)) ⌝ }
+{
+    let ok = c.is_head(x);
+    if !ok {
+        return Answer::Refused(Refusal::Operand);
+    }
+    let i = c.total() + 1 + wide(x);
+    Answer::Linkage(procedures::link_or(c.heads, links[i]))
+}
+
+pub fn suc(c: Counts, links: &[u32], x: u32) -> Answer
+    requires { ⌜ Sound (total c + 1) (now links) ⌝ }
+    ensures { λ r. ⌜ r ≡ sucTold c x (now (links .entry)) ⌝ }
+{
+    let ok = c.is_linkage(x);
+    if !ok {
+        return Answer::Refused(Refusal::Operand);
+    }
+    let i = wide(x);
+    Answer::Linkage(procedures::link_or(c.heads, links[i]))
+}
+
+pub fn pred(c: Counts, links: &[u32], x: u32) -> Answer
+    requires { ⌜ Sound (total c + 1) (now links) ⌝ }
+    ensures { λ r. ⌜ r ≡ predTold c x (now (links .entry)) ⌝ }
+{
+    let ok = c.is_linkage(x);
+    if !ok {
+        return Answer::Refused(Refusal::Operand);
+    }
+    let i = c.total() + 1 + wide(x);
+    Answer::Linkage(procedures::link_or(c.heads, links[i]))
+}
+
+pub fn empty(c: Counts, links: &[u32], x: u32) -> Answer
+    requires { ⌜ Sound (total c + 1) (now links) ⌝ }
+    ensures { λ r. ⌜ r ≡ emptyTold c x (now (links .entry)) ⌝ }
+{
+    let ok = c.is_head(x);
+    if !ok {
+        return Answer::Refused(Refusal::Operand);
+    }
+    let i = wide(x);
+    Answer::Truth(links[i] == x)
+}
+
+pub fn cardinal(c: Counts, links: &[u32], x: u32) -> Answer
+    requires { ⌜ Sound (total c + 1) (now links) ⌝ }
+    ensures { λ r. ⌜ r ≡ cardinalTold c x (now (links .entry)) ⌝ }
+{
+    let ok = c.is_head(x);
+    if !ok {
+        return Answer::Refused(Refusal::Operand);
+    }
+    let n = c.total();
+    let k = count(links, n + 1, wide(x));
+    Answer::Number(k as u64)
+}

@@ -1,0 +1,79 @@
+//! The response that the engine must give to a request, worked out by the simulator.
+
+use crate::protocol::{Lent, Request, Response};
+use crate::sim::accum::{list_in_limits, update_numbered, MOST};
+use crate::sim::call::number;
+use crate::sim::model::{require, Model, Refusal};
+use crate::sim::run::{Run, MAX_TRACE};
+use crate::sim::sheet::{self, Sheet};
+use crate::sim::tables;
+
+/// Whether the calls program knows this call.
+pub fn known(call: u32) -> bool {
+    matches!(call, number::JUDGE..=number::ACCUM | number::FIRST..=number::FINISH | number::RUN)
+}
+
+/// Code, line count, answer and every word afterwards.
+pub fn expected(request: &Request) -> Response {
+    let mut lent = request.lent.clone();
+    if request.call.number == number::RUN {
+        let (code, lines) = match run(request, &mut lent) {
+            Ok(end) => end,
+            Err(refusal) => (refusal, 0),
+        };
+        return Response { code, lines, answer: 0, lent };
+    }
+    let (code, answer) = match direct(request, &mut lent) {
+        Ok(answer) => (0, answer),
+        Err(refusal) => (refusal, 0),
+    };
+    Response { code, lines: 0, answer, lent }
+}
+
+/// A call on the tables themselves: 1 and 2 on the whole model, then the call on its lists.
+fn direct(request: &Request, lent: &mut Lent) -> Result<u64, Refusal> {
+    let call = request.call;
+    let numbered = call.number == number::ACCUM;
+    require(!numbered || list_in_limits(&lent.accums), 1)?;
+    let mut model = tables::decode(request.counts, &lent.tables)?;
+    match call.number {
+        number::JUDGE => Ok(0),
+        number::ACCUM => update_numbered(&mut lent.accums, call.x, model.time(), call.t).map(|()| 0),
+        number::ACCUM_ALONE => {
+            let alone = lent.accums.len().min(1);
+            update_numbered(&mut lent.accums[..alone], 1, model.time(), call.t).map(|()| 0)
+        }
+        _ => {
+            let answer = model.make(call);
+            lent.tables = tables::encode(&model);
+            answer
+        }
+    }
+}
+
+/// A run over the lent trace: 8, 1, 2, then turns.
+fn run(request: &Request, lent: &mut Lent) -> Result<(u32, u32), Refusal> {
+    let sheet = sheet::decode(&request.sheet)?;
+    let mut run = judge_run(&sheet, lent)?;
+    let (end, lines) = run.go_on(&sheet, &mut lent.trace);
+    write_run(&run, lent);
+    Ok((end.code(), lines))
+}
+
+/// The run that is lent, or refusal 1 or 2. Accumulators are not judged here.
+fn judge_run(sheet: &Sheet, lent: &Lent) -> Result<Run, Refusal> {
+    let places = sheet.counts.processes as usize + 1;
+    let fit = lent.positions.len() == places && lent.accums.len() == MOST && lent.trace.len() <= MAX_TRACE;
+    require(fit, 1)?;
+    let model: Model = tables::decode(sheet.counts, &lent.tables)?;
+    let positions = lent.positions[0] == 0 && lent.positions.iter().all(|&p| p <= sheet.size());
+    require(positions, 2)?;
+    Ok(Run { model, positions: lent.positions[1..].to_vec(), accums: lent.accums.clone() })
+}
+
+/// Writes the run's tables, positions and accumulators.
+pub fn write_run(run: &Run, lent: &mut Lent) {
+    lent.tables = tables::encode(&run.model);
+    lent.positions = [0].iter().chain(&run.positions).copied().collect();
+    lent.accums.clone_from(&run.accums);
+}

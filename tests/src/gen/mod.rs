@@ -1,0 +1,23 @@
+//! Seeded generators: good models, calls, damaged tables, sheets, runs.
+
+pub mod accums;
+pub mod damage;
+pub mod models;
+pub mod operands;
+pub mod prints;
+pub mod records;
+pub mod ring_damage;
+pub mod run_lists;
+pub mod runs;
+pub mod sheet_damage;
+pub mod sheets;
+pub mod special;
+pub mod stream;
+
+use crate::protocol::Request;
+
+/// A request and, in a few words, what is particular about it.
+pub struct Case {
+    pub request: Request,
+    pub note: &'static str,
+}

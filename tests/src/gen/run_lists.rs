@@ -1,0 +1,55 @@
+//! Lists of run calls over one sheet, each going on from what the last one left.
+
+use super::{runs, sheets, special};
+use crate::protocol::{Lent, Request};
+use crate::rng::Rng;
+use crate::sim::run::Run;
+use crate::sim::sheet::Sheet;
+
+/// A sheet and its run, so far.
+pub struct RunList {
+    pub sheet: Sheet,
+    /// What the last call returned.
+    lent: Lent,
+    /// The plain machine, fed the sheet and the buffers' lengths and nothing of the tables.
+    pub machine: Run,
+    /// A machine that is never cut.
+    pub uncut: Run,
+    left: u32,
+}
+
+impl RunList {
+    fn new(rng: &mut Rng, sheet: Sheet) -> RunList {
+        let run = Run::fresh(&sheet);
+        let left = rng.between(3, 14);
+        RunList { lent: runs::lent(&run), machine: run.clone(), uncut: run, sheet, left }
+    }
+
+    /// Some calls are still to be made.
+    pub fn goes_on(&self) -> bool {
+        self.left > 0
+    }
+
+    /// The next call, with a trace buffer of its own.
+    pub fn next(&mut self, rng: &mut Rng) -> Request {
+        self.left -= 1;
+        let length = runs::buffer(rng);
+        let lent = Lent { trace: rng.bytes(length), ..self.lent.clone() };
+        runs::request(rng, self.sheet.encode(), self.sheet.counts, lent)
+    }
+
+    /// The next call goes on from this.
+    pub fn go_on_from(&mut self, returned: &Lent) {
+        self.lent = Lent { trace: Vec::new(), ..returned.clone() };
+    }
+}
+
+/// So many lists; the first ones of all are over the sheets built by hand.
+pub fn lists(rng: &mut Rng, count: u64, first: bool) -> Vec<RunList> {
+    let mut sheets = if first { special::all() } else { Vec::new() };
+    while (sheets.len() as u64) < count {
+        sheets.push(sheets::any(rng));
+    }
+    sheets.truncate(count as usize);
+    sheets.into_iter().map(|sheet| RunList::new(rng, sheet)).collect()
+}

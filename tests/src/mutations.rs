@@ -1,0 +1,103 @@
+//! Plausible misreadings of the papers. Each can be switched on in the simulator by its number, so that
+//! the tests can show that they would find an engine that makes it.
+
+use std::cell::Cell;
+
+thread_local! {
+    /// The number of the misreading that is switched on; 0 for none.
+    static ACTIVE: Cell<usize> = const { Cell::new(0) };
+}
+
+macro_rules! mutations {
+    ($($name:ident: $text:expr,)*) => {
+        #[derive(Clone, Copy, PartialEq, Eq)]
+        pub enum M { $($name,)* }
+        /// The misreadings in words; number K stands at K - 1.
+        pub const LIST: &[&str] = &[$($text,)*];
+    };
+}
+
+mutations! {
+    FollowUnlinkedStays: "a link stays in its old set when it follows an unlinked one",
+    FollowSelfStays: "a link that follows itself stays where it is",
+    SecondNoneRefused: "none as second party of follow, precede and into is refused",
+    IntoLinkPrecedes: "into with a link for the head is precede",
+    HeadEndsSwapped: "follow of a head goes last and precede of a head first",
+    OutUnlinkedRefused: "out of an unlinked link is refused",
+    SucGivesHead: "suc of the last member is the head",
+    SucOfHeadRefused: "suc and pred refuse a head",
+    CardinalCountsHead: "cardinal counts the head too",
+    ClearFirstOnly: "clear removes the first member only",
+    AtBehindAll: "at T stands behind the whole axis",
+    AtBeforeEquals: "at T without prior stands in front of equal times",
+    PriorBeforeAll: "prior stands in front of the whole axis",
+    PriorNowBehind: "prior at the present time goes behind equal times",
+    DirectSecond: "direct stands right behind the current notice",
+    AfterBehindEquals: "after Y stands behind all of Y's time",
+    BeforeBeforeEquals: "before Y stands in front of all of Y's time",
+    DropBeforeTime: "reactivate drops the old notice before time is read",
+    ReactivatePassivates: "every reactivate passivates the caller",
+    ActivateLiveActs: "activate of a live process acts",
+    TerminatedActs: "a terminated process can be activated",
+    PastNotRaised: "a T below time is not raised to time",
+    DelayIsAt: "delay T does not add time",
+    SelfBesideDrops: "reactivate of X beside X drops the notice",
+    IdleYKeepsOld: "reactivate beside an idle Y has no effect",
+    LimitExcluded: "a time at the limit is refused",
+    LimitBeforeEffect: "a T above the limit is refused where the call has no effect",
+    EffectBeforeKind: "y of the wrong kind is not judged where the call has no effect",
+    ClauseSevenDirect: "a clause above 6 is direct",
+    UnusedYJudged: "y is judged under clauses 0 to 4",
+    HoldZeroStays: "hold of 0 or less does not go behind equal times",
+    HoldBeforeEquals: "hold goes in front of equal times",
+    HoldBackwards: "hold of a T below 0 goes back in time",
+    WaitRefusedEnters: "a wait refused with 4 still enters the set",
+    WaitNoneRefused: "wait on none is refused",
+    CancelNoneRefused: "cancel of none is refused",
+    CancelLastAllowed: "cancel may take the last notice",
+    FinishMainAllowed: "main can finish by call",
+    FinishUnmarked: "finish only passivates",
+    EvtimeIdleZero: "evtime of an idle process is 0",
+    NextevIdleRefused: "nextev of an idle process is refused",
+    AccumAddsFirst: "accum adds d to c before a grows",
+    AccumClockKept: "accum leaves b as it was",
+    AccumBoundByTime: "accum bounds a by time instead of b",
+    AccumSumFree: "accum does not judge c + d",
+    MarkTwoTaken: "a mark of 2 or more counts as not terminated",
+    IdleTimeTaken: "an idle process may have a time",
+    PredecessorsUnread: "the predecessor halves are not looked at",
+    MainMarkTaken: "main may be terminated",
+    UnusedFieldsFree: "unused fields of a record may hold anything",
+    UnreachedFree: "records that no chain reaches are not judged",
+    OperandAtStep: "an operand out of range is refused at its step, not with the sheet",
+    TrailingBytesFree: "bytes after a sheet's end are allowed",
+    RefusedStepMoves: "a refused step moves the position",
+    FullAfterRefused: "refused is looked at before full",
+    FullBeforeFinished: "full is looked at before finished",
+    NewCurrentMoves: "the process current after the step moves on",
+    LineAfterStep: "a line holds the time and process after its step",
+    MainAtZeroEnds: "a run ends when main is at position 0, current or not",
+    BranchTurned: "12 goes to y when the head is not empty",
+    FirstReadLate: "the first member of a head is read after x is out",
+    AccumsAtEntry: "a run's accumulators are judged at its entry",
+    TraceLimitExcluded: "a trace of 65,536 bytes is refused",
+    StoppedFirst: "printing looks at stopped before finished",
+}
+
+/// Whether this misreading is switched on.
+pub fn on(mutation: M) -> bool {
+    ACTIVE.with(|active| active.get() == mutation as usize + 1)
+}
+
+/// Switches misreading number K on for this thread; 0 switches off.
+pub fn switch(number: usize) {
+    ACTIVE.with(|active| active.set(number));
+}
+
+/// What `work` gives under misreading number K.
+pub fn under<T>(number: usize, work: impl FnOnce() -> T) -> T {
+    switch(number);
+    let result = work();
+    switch(0);
+    result
+}

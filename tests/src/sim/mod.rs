@@ -1,0 +1,14 @@
+//! The plain list simulator, written from document 01 and its readings alone.
+//! It knows lists of links and of notices; tables are only read into lists and written from them.
+
+pub mod accum;
+pub mod activation;
+pub mod call;
+pub mod model;
+pub mod print;
+pub mod run;
+pub mod sequencing;
+pub mod sets;
+pub mod sheet;
+pub mod sheet_rules;
+pub mod tables;
