@@ -4,3 +4,9 @@ pub mod Procedures
 pub mod Calls
 pub mod Moves
 pub mod Promise
+pub mod OnSets
+pub mod Laws
+pub mod ClearLaw
+pub mod QueryLaws
+pub mod Meaning
+pub mod Kept

@@ -49,20 +49,17 @@ prevIn x [] = 0
 prevIn x (y ∷ []) = 0
 prevIn x (y ∷ z ∷ l) = if eqb z x then y else prevIn x (z ∷ l)
 
--- in the list that x heads or stands in: the link after x, the first for a head; the link before x, the last for a head; none otherwise
-abbrev pub sucFrom : ℕ → ℕ → List (List ℕ) → ℕ
-sucFrom h x [] = 0
-sucFrom h x (l ∷ ls) = if has x (h ∷ l) then nextIn x (h ∷ l) else sucFrom (suc h) x ls
+-- f at the list that x heads or stands in, none where there is no such list; h is the number of the first list's head
+abbrev pub whereIn : (ℕ → List ℕ → ℕ) → ℕ → ℕ → List (List ℕ) → ℕ
+whereIn f x h [] = 0
+whereIn f x h (l ∷ ls) = if has x (h ∷ l) then f h l else whereIn f x (suc h) ls
 
-abbrev pub predFrom : ℕ → ℕ → List (List ℕ) → ℕ
-predFrom h x [] = 0
-predFrom h x (l ∷ ls) = if has x (h ∷ l) then prevIn x (l ++ (h ∷ [])) else predFrom (suc h) x ls
-
+-- the link after x, the first for a head; the link before x, the last for a head
 abbrev pub sucSets : ℕ → List (List ℕ) → ℕ
-sucSets x sets = sucFrom 1 x sets
+sucSets x sets = whereIn (λ h l. nextIn x (h ∷ l)) x 1 sets
 
 abbrev pub predSets : ℕ → List (List ℕ) → ℕ
-predSets x sets = predFrom 1 x sets
+predSets x sets = whereIn (λ h l. prevIn x (l ++ (h ∷ []))) x 1 sets
 
 abbrev pub noLinks : List ℕ → Bool
 noLinks [] = true
