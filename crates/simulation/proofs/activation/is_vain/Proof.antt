@@ -1,0 +1,51 @@
+use borrow.Author.Needs.{needs}
+use native.Mathlib.Omega.{arith}
+use borrow.Author.Tests.{not-true, not-false}
+use Rattle.simulation.proofs.Arms.{vain-none, vain-marked, vain-idle, vain-busy, vain-timed, vain-beside}
+use Rattle.simulation.proofs.activation.is_vain.Statement.{statement}
+use Rattle.simulation.proofs.activation.is_vain.Tie as tie
+
+returns : tie.Need-returns
+returns c = vain-none _ _ _ _ _ _ (c .if1 .taken)
+
+wide-requires : tie.Need-wide-requires
+wide-requires c κs = search needs
+
+mark-at-requires : tie.Need-mark-at-requires
+mark-at-requires c κs = search needs
+
+returns-2 : tie.Need-returns-2
+returns-2 c = vain-marked _ _ _ _ _ _ (c .before .before .before .if1 .left) _ _ (c .before .before .wide .ensures) (c .before .mark-at .ensures) (c .if2 .taken)
+
+mul-if3 : tie.Need-mul-if3
+mul-if3 c = search needs
+
+shared-slice-read-if3 : tie.Need-shared-slice-read-if3
+shared-slice-read-if3 c = search needs
+
+returns-3 : tie.Need-returns-3
+returns-3 c = vain-idle _ _ _ _ _ _ (c .before .before .before .before .before .if1 .left) _ _ (c .before .before .before .before .wide .ensures) (c .before .before .before .mark-at .ensures) (c .before .before .if2 .left) (c .if3 .taken)
+
+returns-4 : tie.Need-returns-4
+returns-4 c = vain-busy _ _ _ _ _ _ (c .before .before .before .before .before .before .if1 .left) _ _ (c .before .before .before .before .before .wide .ensures) (c .before .before .before .before .mark-at .ensures) (c .before .before .before .if2 .left) (c .before .if3 .left) (not-true _ (c .if4 .taken))
+
+returns-5 : tie.Need-returns-5
+returns-5 c = vain-timed _ _ _ _ _ _ (c .before .before .before .before .before .before .before .if1 .left) _ _ (c .before .before .before .before .before .before .wide .ensures) (c .before .before .before .before .before .mark-at .ensures) (c .before .before .before .before .if2 .left) (c .before .before .if3 .left) (not-false _ (c .before .if4 .left)) (c .if5 .taken)
+
+returns-6 : tie.Need-returns-6
+returns-6 c = vain-beside _ _ _ _ _ _ (c .before .before .before .before .before .before .before .if1 .left) _ _ (c .before .before .before .before .before .before .wide .ensures) (c .before .before .before .before .before .mark-at .ensures) (c .before .before .before .before .if2 .left) (c .before .before .if3 .left) (not-false _ (c .before .if4 .left)) (c .if5 .left)
+
+pub is-vain-spec : {M : Type 1} → statement M
+is-vain-spec =
+    tie.close
+    (tie.spec
+    returns
+    wide-requires
+    mark-at-requires
+    returns-2
+    mul-if3
+    shared-slice-read-if3
+    returns-3
+    returns-4
+    returns-5
+    returns-6)

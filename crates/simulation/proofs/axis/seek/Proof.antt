@@ -1,0 +1,123 @@
+use borrow.Author.Needs.{needs}
+use native.Mathlib.Omega.{arith}
+use Prim.Native.Nat.{_-_, _+_}
+use Rattle.simulation.proofs.Seeks.{Seeks, seeks-start, seeks-turn, seeks-head, seeks-back, seeks-front, seeks-out}
+use Rattle.simulation.proofs.axis.seek.Statement.{statement}
+use Rattle.simulation.proofs.axis.seek.Tie as tie
+
+abbrev Inv-loop : tie.InvT-loop
+Inv-loop axis m times w head f₀ b₀ n₀ f b n = Seeks axis m times w f b n
+
+abbrev μ-loop : tie.MeasureT-loop
+μ-loop axis m times w head f₀ b₀ n₀ f b n = m - n
+
+sub-head : tie.Need-sub-head Inv-loop μ-loop
+sub-head c = omega (arith, c .before .before .pre .inside 0)
+
+mul-f : tie.Need-mul-f Inv-loop μ-loop
+mul-f c = omega (arith, c .before .before .pre .inside 0, c .before .before .pre .two)
+
+shared-slice-read-f : tie.Need-shared-slice-read-f Inv-loop μ-loop
+shared-slice-read-f c = omega (arith, c .before .before .before .pre .inside 0, c .before .before .before .pre .two)
+
+add-b : tie.Need-add-b Inv-loop μ-loop
+add-b c = omega (arith, c .before .before .before .pre .inside 0, c .before .before .before .pre .two)
+
+mul-b : tie.Need-mul-b Inv-loop μ-loop
+mul-b c = omega (arith, c .before .before .before .pre .inside 0, c .before .before .before .pre .two)
+
+shared-slice-read-b : tie.Need-shared-slice-read-b Inv-loop μ-loop
+shared-slice-read-b c = omega (arith, c .before .before .before .before .pre .inside 0, c .before .before .before .before .pre .two)
+
+loop-holds : tie.Need-loop-holds Inv-loop μ-loop
+loop-holds c = seeks-start _ _ _ _ (c .before .before .before .before .pre)
+
+wide-requires : tie.Need-wide-requires Inv-loop μ-loop
+wide-requires c κs = search needs
+
+returns : tie.Need-returns Inv-loop μ-loop
+returns c = seeks-head _ _ _ _ _ _ _ _ (c .before .before .before .loop .inv) (c .before .wide .ensures) (c .if1 .taken)
+
+due-requires : tie.Need-due-requires Inv-loop μ-loop
+due-requires c κs = search needs
+
+returns-2 : tie.Need-returns-2 Inv-loop μ-loop
+returns-2 c = seeks-back _ _ _ _ _ _ _ _ (c .before .before .before .before .before .loop .inv) (c .before .before .before .wide .ensures) _ (c .before .due .ensures) (c .if2 .taken)
+
+wide-requires-2 : tie.Need-wide-requires-2 Inv-loop μ-loop
+wide-requires-2 c κs = search needs
+
+due-requires-2 : tie.Need-due-requires-2 Inv-loop μ-loop
+due-requires-2 c κs = search needs
+
+add-result : tie.Need-add-result Inv-loop μ-loop
+add-result c = omega (arith, c .before .before .before .before .before .before .before .before .loop .inv .at-f, c .before .before .before .before .before .before .before .before .before .before .before .before .before .pre .two, c .before .before .wide2 .ensures)
+
+mul-result : tie.Need-mul-result Inv-loop μ-loop
+mul-result c = omega (arith, c .before .before .before .before .before .before .before .before .loop .inv .at-f, c .before .before .before .before .before .before .before .before .before .before .before .before .before .pre .two, c .before .before .wide2 .ensures)
+
+shared-slice-read-result : tie.Need-shared-slice-read-result Inv-loop μ-loop
+shared-slice-read-result c = omega (arith, c .before .before .before .before .before .before .before .before .before .loop .inv .at-f, c .before .before .before .before .before .before .before .before .before .before .before .before .before .before .pre .two, c .before .before .before .wide2 .ensures)
+
+returns-3 : tie.Need-returns-3 Inv-loop μ-loop
+returns-3 c = seeks-front _ _ _ _ _ _ _ _ (c .before .before .before .before .before .before .before .before .before .loop .inv) (c .before .before .before .before .before .before .before .wide .ensures) _ _ _ (c .before .before .before .before .before .before .before .before .before .before .before .before .before .before .pre) (search needs) (c .before .before .before .before .before .before .if1 .left) (c .before .before .before .before .before .due .ensures) (c .before .before .before .before .if2 .left) (c .before .before .before .wide2 .ensures) (c .before .before .due2 .ensures) (c .before .if3 .taken)
+
+mul-f-2 : tie.Need-mul-f-2 Inv-loop μ-loop
+mul-f-2 c = omega (arith, c .before .before .before .before .before .before .before .before .loop .inv .at-f, c .before .before .before .before .before .before .before .before .before .before .before .before .before .pre .two, c .before .before .wide2 .ensures)
+
+shared-slice-read-f-2 : tie.Need-shared-slice-read-f-2 Inv-loop μ-loop
+shared-slice-read-f-2 c = omega (arith, c .before .before .before .before .before .before .before .before .before .loop .inv .at-f, c .before .before .before .before .before .before .before .before .before .before .before .before .before .before .pre .two, c .before .before .before .wide2 .ensures)
+
+add-b-2 : tie.Need-add-b-2 Inv-loop μ-loop
+add-b-2 c = omega (arith, c .before .before .before .before .before .before .before .before .before .loop .inv .at-b, c .before .before .before .before .before .before .before .before .before .before .before .before .before .before .pre .two, c .before .before .before .before .before .before .before .wide .ensures)
+
+mul-b-2 : tie.Need-mul-b-2 Inv-loop μ-loop
+mul-b-2 c = omega (arith, c .before .before .before .before .before .before .before .before .before .loop .inv .at-b, c .before .before .before .before .before .before .before .before .before .before .before .before .before .before .pre .two, c .before .before .before .before .before .before .before .wide .ensures)
+
+shared-slice-read-b-2 : tie.Need-shared-slice-read-b-2 Inv-loop μ-loop
+shared-slice-read-b-2 c = omega (arith, c .before .before .before .before .before .before .before .before .before .before .loop .inv .at-b, c .before .before .before .before .before .before .before .before .before .before .before .before .before .before .before .pre .two, c .before .before .before .before .before .before .before .before .wide .ensures)
+
+add-n : tie.Need-add-n Inv-loop μ-loop
+add-n c = omega (arith, c .before .before .before .before .before .before .before .before .before .before .loop .inv .few)
+
+loop-less : tie.Need-loop-less Inv-loop μ-loop
+loop-less c = omega (arith, c .before .before .before .before .before .before .before .before .before .before .loop .inv .few)
+
+loop-again : tie.Need-loop-again Inv-loop μ-loop
+loop-again c = seeks-turn _ _ _ _ _ _ _ _ (c .before .before .before .before .before .before .before .before .before .before .loop .inv) (c .before .before .before .before .before .before .before .before .wide .ensures) _ _ _ (c .before .before .before .before .before .before .before .before .before .before .before .before .before .before .before .pre) (c .before .before .before .before .before .before .before .before .before .loop-test .taken) (c .before .before .before .before .before .before .before .if1 .left) (c .before .before .before .before .before .before .due .ensures) (c .before .before .before .before .before .if2 .left) (c .before .before .before .before .wide2 .ensures) (c .before .before .before .due2 .ensures) (c .before .before .if3 .left)
+
+returns-4 : tie.Need-returns-4 Inv-loop μ-loop
+returns-4 c = seeks-out _ _ _ _ _ _ _ (c .before .loop .inv) (c .loop-test .left)
+
+pub seek-spec : {M : Type 1} → statement M
+seek-spec =
+    tie.close
+    (tie.spec
+    Inv-loop
+    μ-loop
+    sub-head
+    mul-f
+    shared-slice-read-f
+    add-b
+    mul-b
+    shared-slice-read-b
+    loop-holds
+    wide-requires
+    returns
+    due-requires
+    returns-2
+    wide-requires-2
+    due-requires-2
+    add-result
+    mul-result
+    shared-slice-read-result
+    returns-3
+    mul-f-2
+    shared-slice-read-f-2
+    add-b-2
+    mul-b-2
+    shared-slice-read-b-2
+    add-n
+    loop-less
+    loop-again
+    returns-4)

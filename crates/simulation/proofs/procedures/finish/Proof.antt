@@ -1,0 +1,54 @@
+use borrow.Author.Needs.{needs}
+use native.Mathlib.Omega.{arith}
+use Rattle.simulation.proofs.Chained.{finish-4, finish-0}
+use Rattle.simulation.proofs.procedures.finish.Statement.{statement}
+use Rattle.simulation.proofs.procedures.finish.Tie as tie
+
+lone-requires : tie.Need-lone-requires
+lone-requires c κs = search needs
+
+same-length : tie.Need-same-length
+same-length c = search needs
+
+returns : tie.Need-returns
+returns c = finish-4 _ _ _ _ (c .before .lone .ensures) _ (c .before .before .before .before .before .before .pre) (c .if1 .taken)
+
+first-requires : tie.Need-first-requires
+first-requires c κs = search needs
+
+wide-requires : tie.Need-wide-requires
+wide-requires c κs = search needs
+
+mark-requires : tie.Need-mark-requires
+mark-requires c κs = search needs
+
+drop-requires : tie.Need-drop-requires
+drop-requires c κs = (c .before .before .before .before .before .before .before .before .before .before .before .before .before .before .before .pre, c .before .before .before .before .before .before .before .first .ensures .within)
+
+same-length-2 : tie.Need-same-length-2
+same-length-2 c = search needs
+
+same-length-3 : tie.Need-same-length-3
+same-length-3 c = search needs
+
+same-length-4 : tie.Need-same-length-4
+same-length-4 c = search needs
+
+returns-2 : tie.Need-returns-2
+returns-2 c = finish-0 _ _ _ _ (c .before .before .before .before .before .before .before .before .before .before .before .before .before .before .before .lone .ensures) _ _ _ _ _ _ (c .before .before .before .before .before .before .before .before .before .before .before .before .before .before .if1 .left) (c .before .before .before .before .before .before .before .before .before .before .before .before .first .ensures) (c .before .before .before .before .before .before .before .before .before .before .wide .ensures) (c .before .before .before .before .before .before .before .before .before .mark .ensures) (c .before .before .before .before .drop .ensures)
+
+pub finish-spec : {M : Type 1} → statement M
+finish-spec =
+    tie.close
+    (tie.spec
+    lone-requires
+    same-length
+    returns
+    first-requires
+    wide-requires
+    mark-requires
+    drop-requires
+    same-length-2
+    same-length-3
+    same-length-4
+    returns-2)

@@ -1,0 +1,15 @@
+-- Tests on Bools.
+use mathlib.Core.Path.{_≡_, refl, sym}
+use mathlib.Core.Bool.{Bool, true, false, _&&_, _||_}
+use Rattle.ring.specs.Lists as lists
+
+pub clash : {A : Type 0} → true ≡ false → A
+clash e = lists.clash (sym e)
+
+pub and-left : (a b : Bool) → (a && b) ≡ true → a ≡ true
+and-left true b e = refl
+and-left false b e = e
+
+pub and-right : (a b : Bool) → (a && b) ≡ true → b ≡ true
+and-right true b e = e
+and-right false b e = clash (sym e)

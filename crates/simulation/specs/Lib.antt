@@ -1,0 +1,19 @@
+-- The time axis of SIMULATION: on plain lists of notices, as published procedures on tables, and as calls.
+pub mod NoticeOps
+pub mod Orders
+pub mod NoticeLaws
+pub mod PutLaws
+pub mod BesideLaws
+pub mod Choice
+pub mod AxisRing
+pub mod Procedures
+pub mod WalkBack
+pub mod ByDue
+pub mod Seek
+pub mod Places
+pub mod Rank
+pub mod Plain
+pub mod Promise
+pub mod Sign
+pub mod Kept
+pub mod Agree

@@ -1,0 +1,102 @@
+-- What the functions promise.
+use Prim.Native.Nat.{ℕ, suc, _≤_, _<_, _+_, _-_}
+use mathlib.Core.Path.{_≡_, refl, sym, ap, _∙_}
+use mathlib.Core.Bool.{Bool, true, false, _&&_}
+use mathlib.Core.List.{List}
+use native.Mathlib.Omega.{arith}
+use lib.Dec.{leb, eqb}
+use lib.ListN.{length, getD, set, List·getD-eq-default}
+use lib.Seq.{set-out}
+use borrow.Author.Tests.{eq-eqb, ne-eqb, le-leb, lt-leb, leb-true}
+use Rattle.ring.specs.Table.{Sound}
+use Rattle.ring.specs.Lists.{below}
+use Rattle.ring.specs.Lists.{if_then_else_}
+use Rattle.counts.specs.Counts.{limit}
+use Rattle.model.specs.declared.answer.Answer.{Answer}
+use Rattle.simulation.specs.Procedures.{Sqs, Outcome, vain, dueAt}
+
+abbrev pub sqs : List ℕ → List ℕ → Sqs
+sqs a t = record { axis = a; times = t }
+
+-- the tables are as wanted, and safe to go on with
+pub record Left (m : ℕ) (want : Sqs) (axis times : List ℕ) : Type 0 where
+  pub is : sqs axis times ≡ want
+  pub sound : Sound m axis
+
+-- and the answer is
+pub record Answers (m : ℕ) (want : Outcome) (axis times : List ℕ) (r : Answer) : Type 0 where
+  pub is : record { answer = r; left = sqs axis times } ≡ want
+  pub sound : Sound m axis
+
+-- a place of the table
+pub record Place (m want r : ℕ) : Type 0 where
+  pub is : r ≡ want
+  pub within : r < m
+
+-- a time, or the first past the limit for all that are past it
+unfoldable pub capped : ℕ → ℕ
+capped n = if leb n limit then n else suc limit
+
+pub capped-fine : (n : ℕ) → n ≤ limit → capped n ≡ n
+unfolding capped
+capped-fine n l = rw (le-leb n limit l)
+
+pub capped-over : (n : ℕ) → limit < n → capped n ≡ suc limit
+unfolding capped
+capped-over n l = rw (lt-leb n limit l)
+
+-- what a cap within the limit says
+pub capped-in : (n r : ℕ) → r ≡ capped n → r ≤ limit → n ≡ r
+capped-in n r e l =
+    below limit n
+    (λ o. absurd (omega (arith, capped-over n o)))
+    (λ f. sym (e ∙ capped-fine n f))
+
+pub capped-out : (n r : ℕ) → r ≡ capped n → limit < r → limit < n
+capped-out n r e l =
+    below limit n
+    (λ o. o)
+    (λ f. absurd (omega (arith, capped-fine n f)))
+
+-- a word read: 0 past the end; a word stored: nothing past the end
+pub record Read (i : ℕ) (t : List ℕ) (r : ℕ) : Type 0 where
+  pub is : r ≡ getD t i 0
+
+pub record Stored (i v : ℕ) (old new : List ℕ) : Type 0 where
+  pub is : new ≡ set old i v
+
+pub read-past : (i : ℕ) (t : List ℕ) → length t ≤ i → Read i t 0
+read-past i t l = record { is = sym (List·getD-eq-default t 0 {n = i} l) }
+
+pub stored-past : (i v : ℕ) (t : List ℕ) → length t ≤ i → Stored i v t t
+stored-past i v t l = record { is = sym (set-out t i v l) }
+
+-- a test's answer about the first places of the axis
+pub record Lone (m : ℕ) (t : List ℕ) (r : Bool) : Type 0 where
+  pub is : r ≡ eqb (getD t (getD t (m - 1) 0) 0) (m - 1)
+
+pub record Vain (again : Bool) (k x y : ℕ) (marks axis : List ℕ) (r : Bool) : Type 0 where
+  pub is : r ≡ vain again k x y marks axis
+
+-- the clause is before or after, and y is idle
+pub record Beside (k y : ℕ) (axis : List ℕ) (r : Bool) : Type 0 where
+  pub is : r ≡ (leb 5 k && eqb (getD axis y 0) 0)
+
+pub record Due (k y d now : ℕ) (times : List ℕ) (r : ℕ) : Type 0 where
+  pub is : r ≡ capped (dueAt k y d now times)
+
+-- the tables are as wanted, and the answer, and the marks
+pub record AnswersMarked (m : ℕ) (want : Outcome) (wantMarks : List ℕ) (axis times marks : List ℕ) (r : Answer) : Type 0 where
+  pub is : record { answer = r; left = sqs axis times } ≡ want
+  pub sound : Sound m axis
+  pub marked : marks ≡ wantMarks
+
+-- EVENT.suc, 0 where that is the head
+pub record Next (m x : ℕ) (axis : List ℕ) (r : ℕ) : Type 0 where
+  pub is : r ≡ (if eqb (getD axis x 0) (m - 1) then 0 else getD axis x 0)
+
+pub next-none : (m x c s : ℕ) (axis : List ℕ) → c ≡ x → s ≡ getD axis c 0 → s ≡ m - 1 → Next m x axis 0
+next-none m x c s axis ec es e = record { is = rw (← ec, eq-eqb (getD axis c 0) (m - 1) (sym es ∙ e)) }
+
+pub next-some : (m x c s : ℕ) (axis : List ℕ) → c ≡ x → s ≡ getD axis c 0 → (s ≡ m - 1 → ⊥) → Next m x axis (getD axis c 0)
+next-some m x c s axis ec es n = record { is = rw (← ec, ne-eqb (getD axis c 0) (m - 1) (λ h. n (es ∙ h))) }

@@ -1,0 +1,153 @@
+// Reading and changing the sequencing set on lent tables: m is P + 2, the axis's own head stands at m - 1.
+use counts::TIME_LIMIT;
+use ring::link_behind;
+use ring::unlink;
+use ring::wide;
+ghost use mathlib.Core.Path.{_≡_};
+ghost use Prim.Native.Nat.{_+_, _-_, _<_, _≤_};
+ghost use lib.ListN.{getD};
+ghost use Rattle.ring.specs.Table.{Sound};
+ghost use Rattle.simulation.specs.Procedures.{found, dropOn, putOn};
+ghost use Rattle.simulation.specs.Promise.{sqs, Left, Place, Read, Stored, Lone, Next, capped};
+
+// The time at a place, 0 past the table's end.
+pub fn due(times: &[u64], i: usize) -> u64
+    ensures { λ r. ⌜ Read i (now (times .entry)) r ⌝ }
+{
+    if i >= times.len() {
+        return 0;
+    }
+    times[i]
+}
+
+// The mark at a place.
+pub fn mark_at(marks: &[u8], i: usize) -> u8
+    ensures { λ r. ⌜ Read i (now (marks .entry)) r ⌝ }
+{
+    if i >= marks.len() {
+        return 0;
+    }
+    marks[i]
+}
+
+pub fn store(times: &mut [u64], i: usize, v: u64)
+    ensures { λ _. ⌜ Stored i v (now (times .entry)) (now (times .exit)) ⌝ }
+{
+    if i >= times.len() {
+        return;
+    }
+    times[i] = v;
+}
+
+pub fn mark(marks: &mut [u8], i: usize)
+    ensures { λ _. ⌜ Stored i 1 (now (marks .entry)) (now (marks .exit)) ⌝ }
+{
+    if i >= marks.len() {
+        return;
+    }
+    marks[i] = 1;
+}
+
+// A sum of times, or the first number past the limit.
+pub fn plus(a: u64, b: u64) -> u64
+    ensures { λ r. ⌜ r ≡ capped (a + b) ⌝ }
+{
+    if a > TIME_LIMIT {
+        return TIME_LIMIT + 1;
+    }
+    if b > TIME_LIMIT - a {
+        return TIME_LIMIT + 1;
+    }
+    a + b
+}
+
+// The same place, looked for from both ends at once.
+pub fn seek(axis: &[u32], m: usize, times: &[u64], w: u64) -> u32
+    requires { ⌜ Sound m (now axis) ⌝ }
+    ensures { λ r. ⌜ Place m (found m w (sqs (now (axis .entry)) (now (times .entry)))) r ⌝ }
+{
+    let head = m - 1;
+    let mut f = axis[head];
+    let mut b = axis[m + head];
+    let mut n: usize = 0;
+    while n < m {
+        let q = wide(b);
+        if q == head {
+            return b;
+        }
+        if due(times, q) < w {
+            return b;
+        }
+        let p = wide(f);
+        if due(times, p) >= w {
+            return axis[m + p];
+        }
+        f = axis[p];
+        b = axis[m + q];
+        n += 1;
+    }
+    b
+}
+
+// Takes x's notice away.
+pub fn drop(axis: &mut [u32], m: usize, times: &mut [u64], x: u32)
+    requires { ⌜ Sound m (now axis) ⌝ }
+    requires { ⌜ x < m ⌝ }
+    ensures { λ _. ⌜ Left m (dropOn m x (sqs (now (axis .entry)) (now (times .entry)))) (now (axis .exit)) (now (times .exit)) ⌝ }
+{
+    unlink(axis, m, wide(x));
+    store(times, wide(x), 0);
+}
+
+// A notice for x, which has none, at time u behind the place q.
+pub fn put(axis: &mut [u32], m: usize, times: &mut [u64], x: u32, q: u32, u: u64)
+    requires { ⌜ Sound m (now axis) ⌝ }
+    requires { ⌜ x < m ⌝ }
+    requires { ⌜ q < m ⌝ }
+    ensures { λ _. ⌜ Left m (putOn m x q u (sqs (now (axis .entry)) (now (times .entry)))) (now (axis .exit)) (now (times .exit)) ⌝ }
+{
+    link_behind(axis, m, x, q);
+    store(times, wide(x), u);
+}
+
+// The place of the first notice.
+pub fn first(axis: &[u32], m: usize) -> u32
+    requires { ⌜ Sound m (now axis) ⌝ }
+    ensures { λ r. ⌜ Place m (getD (now (axis .entry)) (m - 1) 0) r ⌝ }
+{
+    axis[m - 1]
+}
+
+// Whether there is no second notice.
+pub fn lone(axis: &[u32], m: usize) -> bool
+    requires { ⌜ Sound m (now axis) ⌝ }
+    ensures { λ r. ⌜ Lone m (now (axis .entry)) r ⌝ }
+{
+    let c = wide(axis[m - 1]);
+    wide(axis[c]) == m - 1
+}
+
+// x's notice moves: at time u behind the last whose time is below w.
+pub fn move_to(axis: &mut [u32], m: usize, times: &mut [u64], x: u32, w: u64, u: u64)
+    requires { ⌜ Sound m (now axis) ⌝ }
+    requires { ⌜ x < m ⌝ }
+    ensures { λ _. ⌜ Left m (putOn m x (found m w (dropOn m x (sqs (now (axis .entry)) (now (times .entry))))) u (dropOn m x (sqs (now (axis .entry)) (now (times .entry))))) (now (axis .exit)) (now (times .exit)) ⌝ }
+{
+    drop(axis, m, times, x);
+    let q = seek(axis, m, times, w);
+    put(axis, m, times, x, q, u);
+}
+
+// The place behind x's on the axis, 0 where that is the head: nextev of a process that is not idle.
+pub fn next_of(axis: &[u32], m: usize, x: u32) -> u32
+    requires { ⌜ Sound m (now axis) ⌝ }
+    requires { ⌜ x < m ⌝ }
+    ensures { λ r. ⌜ Next m x (now (axis .entry)) r ⌝ }
+{
+    let c = wide(x);
+    let s = axis[c];
+    if wide(s) == m - 1 {
+        return 0;
+    }
+    s
+}

@@ -1,0 +1,97 @@
+// Hold, passivate, cancel and finish on sound tables: refusals 4 and 5, or the published procedure.
+use counts::Refusal;
+use counts::TIME_LIMIT;
+use model::answer::Answer;
+use ring::wide;
+use crate::axis::drop;
+use crate::axis::due;
+use crate::axis::first;
+use crate::axis::lone;
+use crate::axis::mark;
+use crate::axis::move_to;
+use crate::axis::plus;
+use crate::axis::store;
+ghost use mathlib.Core.Path.{_≡_};
+ghost use Prim.Native.Nat.{_<_, _≤_};
+ghost use Rattle.ring.specs.Table.{Sound};
+ghost use Rattle.counts.specs.Counts.{limit};
+ghost use Rattle.simulation.specs.Procedures.{heldAt, held, passivated, cancelled, finishedMarks};
+ghost use Rattle.simulation.specs.Promise.{sqs, Left, Answers, AnswersMarked};
+
+// x's notice gets the time u; where the next is due by then, it goes behind all due by then.
+pub fn hold_at(axis: &mut [u32], m: usize, times: &mut [u64], x: u32, u: u64)
+    requires { ⌜ Sound m (now axis) ⌝ }
+    requires { ⌜ x < m ⌝ }
+    requires { ⌜ u ≤ limit ⌝ }
+    ensures { λ _. ⌜ Left m (heldAt m x u (sqs (now (axis .entry)) (now (times .entry)))) (now (axis .exit)) (now (times .exit)) ⌝ }
+{
+    let c = wide(x);
+    let s = wide(axis[c]);
+    if s == m - 1 {
+        store(times, c, u);
+        return;
+    }
+    if u < due(times, s) {
+        store(times, c, u);
+        return;
+    }
+    move_to(axis, m, times, x, u + 1, u);
+}
+
+// Hold; d is T where that is above 0, else 0.
+pub fn hold(axis: &mut [u32], m: usize, times: &mut [u64], d: u64) -> Answer
+    requires { ⌜ Sound m (now axis) ⌝ }
+    ensures { λ r. ⌜ Answers m (held m d (sqs (now (axis .entry)) (now (times .entry)))) (now (axis .exit)) (now (times .exit)) r ⌝ }
+{
+    let c = first(axis, m);
+    let u = plus(due(times, wide(c)), d);
+    if u > TIME_LIMIT {
+        return Answer::Refused(Refusal::TimeLimit);
+    }
+    hold_at(axis, m, times, c, u);
+    Answer::Done
+}
+
+// Passivate.
+pub fn passivate(axis: &mut [u32], m: usize, times: &mut [u64]) -> Answer
+    requires { ⌜ Sound m (now axis) ⌝ }
+    ensures { λ r. ⌜ Answers m (passivated m (sqs (now (axis .entry)) (now (times .entry)))) (now (axis .exit)) (now (times .exit)) r ⌝ }
+{
+    if lone(axis, m) {
+        return Answer::Refused(Refusal::NoNotice);
+    }
+    let c = first(axis, m);
+    drop(axis, m, times, c);
+    Answer::Done
+}
+
+// Cancel.
+pub fn cancel(axis: &mut [u32], m: usize, times: &mut [u64], x: u32) -> Answer
+    requires { ⌜ Sound m (now axis) ⌝ }
+    requires { ⌜ x < m ⌝ }
+    ensures { λ r. ⌜ Answers m (cancelled m x (sqs (now (axis .entry)) (now (times .entry)))) (now (axis .exit)) (now (times .exit)) r ⌝ }
+{
+    let c = wide(x);
+    if axis[c] == 0 {
+        return Answer::Done;
+    }
+    if lone(axis, m) {
+        return Answer::Refused(Refusal::NoNotice);
+    }
+    drop(axis, m, times, x);
+    Answer::Done
+}
+
+// Finish: current is marked terminated, then passivated.
+pub fn finish(axis: &mut [u32], m: usize, times: &mut [u64], marks: &mut [u8]) -> Answer
+    requires { ⌜ Sound m (now axis) ⌝ }
+    ensures { λ r. ⌜ AnswersMarked m (passivated m (sqs (now (axis .entry)) (now (times .entry)))) (finishedMarks m (now (marks .entry)) (sqs (now (axis .entry)) (now (times .entry)))) (now (axis .exit)) (now (times .exit)) (now (marks .exit)) r ⌝ }
+{
+    if lone(axis, m) {
+        return Answer::Refused(Refusal::NoNotice);
+    }
+    let c = first(axis, m);
+    mark(marks, wide(c));
+    drop(axis, m, times, c);
+    Answer::Done
+}
