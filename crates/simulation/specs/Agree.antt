@@ -290,20 +290,22 @@ module _ (c : Counts) (M : Lists) (t : Tables) (sp : Spells c M t) (n : Notice) 
       go [] w s = rw (lone-yes c n (sqsOf t) s) (refl, refl, refl)
       go (k ∷ ks) w s =
           let r : SpellsTime c (k ∷ ks) (dropOn (half c) (firstOf (half c) (sqsOf t)) (sqsOf t)) = rest-spells c n (k ∷ ks) (sqsOf t) s in
-          rw (lone-no c n k ks (sqsOf t) s)
-          (refl, record {
-            links = sp .links;
-            axis = r .axis;
-            times = r .times;
-            marks = rw (first-is c n (k ∷ ks) (sqsOf t) s) (marks-set (n .who) (process-first c n (k ∷ ks) (sqsOf t) s));
-            some = omega arith;
-            in-order = w .in-order .1;
-            within = w .within .1;
-            ended = λ x i. ⊎-elim
-                (λ q. subst (λ (j : ℕ). Ended c j (k ∷ ks)) (sym q) (own (process-first c n (k ∷ ks) (sqsOf t) s) (k ∷ ks) (once c (n ∷ k ∷ ks) (sqsOf t) s .0)))
-                (λ j. let e = sp .ended x j in (e .0, e .1, e .2, λ g. w .idle x j (inr g)))
-                i;
-          })
+          rw (lone-no c n k ks (sqsOf t) s) (
+            refl,
+            record {
+              links = sp .links;
+              axis = r .axis;
+              times = r .times;
+              marks = rw (first-is c n (k ∷ ks) (sqsOf t) s) (marks-set (n .who) (process-first c n (k ∷ ks) (sqsOf t) s));
+              some = omega arith;
+              in-order = w .in-order .1;
+              within = w .within .1;
+              ended = λ x i. ⊎-elim
+                  (λ q. subst (λ (j : ℕ). Ended c j (k ∷ ks)) (sym q) (own (process-first c n (k ∷ ks) (sqsOf t) s) (k ∷ ks) (once c (n ∷ k ∷ ks) (sqsOf t) s .0)))
+                  (λ j. let e = sp .ended x j in (e .0, e .1, e .2, λ g. w .idle x j (inr g)))
+                  i;
+            },
+          )
 
 -- ---- wait: with no second notice it is refused, whatever becomes of the sets; else it is into, then passivate
 module _ (c : Counts) (M : Lists) (t : Tables) (sp : Spells c M t) (n : Notice) (ns : List Notice) (e : M .notices ≡ n ∷ ns) where

@@ -13,7 +13,12 @@ pub mod Seek
 pub mod Places
 pub mod Rank
 pub mod Plain
+pub mod Calls
 pub mod Promise
 pub mod Sign
 pub mod Kept
 pub mod Agree
+pub mod PlacedLaws
+pub mod AgreeTimed
+pub mod StepPromise
+pub mod ReadPromise

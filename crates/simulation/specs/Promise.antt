@@ -11,7 +11,10 @@ use borrow.Author.Tests.{eq-eqb, ne-eqb, le-leb, lt-leb, leb-true}
 use Rattle.ring.specs.Table.{Sound}
 use Rattle.ring.specs.Lists.{below}
 use Rattle.ring.specs.Lists.{if_then_else_}
-use Rattle.counts.specs.Counts.{limit}
+use Rattle.counts.specs.declared.Counts.{Counts}
+use Rattle.counts.specs.Counts.{limit, Allowed}
+use Rattle.model.specs.Tables.{Tables}
+use Rattle.model.specs.Ready.{Ready}
 use Rattle.model.specs.declared.answer.Answer.{Answer}
 use Rattle.simulation.specs.Procedures.{Sqs, Outcome, vain, dueAt}
 
@@ -100,3 +103,14 @@ next-none m x c s axis ec es e = record { is = rw (← ec, eq-eqb (getD axis c 0
 
 pub next-some : (m x c s : ℕ) (axis : List ℕ) → c ≡ x → s ≡ getD axis c 0 → (s ≡ m - 1 → ⊥) → Next m x axis (getD axis c 0)
 next-some m x c s axis ec es n = record { is = rw (← ec, ne-eqb (getD axis c 0) (m - 1) (λ h. n (es ∙ h))) }
+
+-- ---- what a judged model gives the calls: limits, a sound axis, and a first notice
+
+pub record Judged (c : Counts) (axis : List ℕ) : Type 0 where
+  pub allowed : Allowed c
+  pub sound : Sound (c .processes + 2) axis
+  pub first-some : 0 < getD axis (c .processes + 1) 0
+  pub first-in : getD axis (c .processes + 1) 0 ≤ c .processes
+
+pub ready-judged : (c : Counts) (t : Tables) → Ready c t → Judged c (t .axis)
+ready-judged c t r = record { allowed = r .allowed; sound = r .axis-sound; first-some = r .first-some; first-in = r .first-in }

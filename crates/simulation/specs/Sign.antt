@@ -42,3 +42,7 @@ module _ (x : ℤ) (f : SFits w64 x) where
 
   pub above-is : ltZ (toZ w64 (ofZ w64 x)) (pos 0) ≡ false → natAbs (toZ w64 (ofZ w64 x)) ≡ above x
   above-is h = ap natAbs kept ∙ same-abs x (subst (λ (z : ℤ). ltZ z (pos 0) ≡ false) kept h)
+
+  -- T handed on to a call
+  pub above-passed : (d : ℕ) → d ≡ above (toZ w64 (ofZ w64 x)) → d ≡ above x
+  above-passed d e = e ∙ ap above kept

@@ -1,8 +1,4 @@
 // ACTIVATE on sound tables: no effect, refusals 4 and 5, or the new notice where its clause says.
-use counts::Refusal;
-use counts::TIME_LIMIT;
-use model::answer::Answer;
-use ring::wide;
 use crate::axis::drop;
 use crate::axis::due;
 use crate::axis::first;
@@ -11,6 +7,10 @@ use crate::axis::plus;
 use crate::axis::put;
 use crate::axis::seek;
 use crate::procedures::cancel;
+use counts::Refusal;
+use counts::TIME_LIMIT;
+use model::answer::Answer;
+use ring::wide;
 ghost use mathlib.Core.Path.{_≡_};
 ghost use Prim.Native.Nat.{_+_, _<_, _≤_};
 ghost use Rattle.ring.specs.Table.{Sound};

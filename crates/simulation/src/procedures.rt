@@ -1,8 +1,4 @@
 // Hold, passivate, cancel and finish on sound tables: refusals 4 and 5, or the published procedure.
-use counts::Refusal;
-use counts::TIME_LIMIT;
-use model::answer::Answer;
-use ring::wide;
 use crate::axis::drop;
 use crate::axis::due;
 use crate::axis::first;
@@ -11,6 +7,10 @@ use crate::axis::mark;
 use crate::axis::move_to;
 use crate::axis::plus;
 use crate::axis::store;
+use counts::Refusal;
+use counts::TIME_LIMIT;
+use model::answer::Answer;
+use ring::wide;
 ghost use mathlib.Core.Path.{_≡_};
 ghost use Prim.Native.Nat.{_<_, _≤_};
 ghost use Rattle.ring.specs.Table.{Sound};

@@ -1,5 +1,3 @@
-use borrow.Author.Needs.{needs}
-use native.Mathlib.Omega.{arith}
 use Rattle.simulation.specs.Sign.{above-none, above-cast, above-is}
 use Rattle.simulation.proofs.activation.above_zero.Statement.{statement}
 use Rattle.simulation.proofs.activation.above_zero.Tie as tie

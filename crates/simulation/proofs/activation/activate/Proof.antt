@@ -1,5 +1,4 @@
 use borrow.Author.Needs.{needs}
-use native.Mathlib.Omega.{arith}
 use Rattle.simulation.proofs.Chained.{vain-0, active-5, active-idle, active-0}
 use Rattle.simulation.proofs.activation.activate.Statement.{statement}
 use Rattle.simulation.proofs.activation.activate.Tie as tie

@@ -1,5 +1,4 @@
 use borrow.Author.Needs.{needs}
-use native.Mathlib.Omega.{arith}
 use Rattle.simulation.proofs.Arms.{beside-not, beside-test}
 use Rattle.simulation.proofs.activation.beside_idle.Statement.{statement}
 use Rattle.simulation.proofs.activation.beside_idle.Tie as tie

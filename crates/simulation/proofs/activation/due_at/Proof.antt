@@ -1,5 +1,4 @@
 use borrow.Author.Needs.{needs}
-use native.Mathlib.Omega.{arith}
 use Rattle.simulation.proofs.Arms.{due-direct, due-beside, due-two, due-four, due-early, due-late}
 use Rattle.simulation.proofs.activation.due_at.Statement.{statement}
 use Rattle.simulation.proofs.activation.due_at.Tie as tie

@@ -1,5 +1,4 @@
 use borrow.Author.Needs.{needs}
-use native.Mathlib.Omega.{arith}
 use borrow.Author.Tests.{not-true, not-false}
 use Rattle.simulation.proofs.Arms.{vain-none, vain-marked, vain-idle, vain-busy, vain-timed, vain-beside}
 use Rattle.simulation.proofs.activation.is_vain.Statement.{statement}

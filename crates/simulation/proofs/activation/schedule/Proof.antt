@@ -1,5 +1,4 @@
 use borrow.Author.Needs.{needs}
-use native.Mathlib.Omega.{arith}
 use Rattle.simulation.proofs.Chained.{scheduled-by}
 use Rattle.simulation.proofs.activation.schedule.Statement.{statement}
 use Rattle.simulation.proofs.activation.schedule.Tie as tie

@@ -1,5 +1,4 @@
 use borrow.Author.Needs.{needs}
-use native.Mathlib.Omega.{arith}
 use Rattle.simulation.proofs.Chained.{dropped-by}
 use Rattle.simulation.proofs.axis.drop.Statement.{statement}
 use Rattle.simulation.proofs.axis.drop.Tie as tie

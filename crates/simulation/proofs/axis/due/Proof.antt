@@ -1,5 +1,4 @@
 use borrow.Author.Needs.{needs}
-use native.Mathlib.Omega.{arith}
 use Rattle.simulation.specs.Promise.{read-past}
 use Rattle.simulation.proofs.axis.due.Statement.{statement}
 use Rattle.simulation.proofs.axis.due.Tie as tie

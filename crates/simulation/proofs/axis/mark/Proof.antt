@@ -1,5 +1,4 @@
 use borrow.Author.Needs.{needs}
-use native.Mathlib.Omega.{arith}
 use Rattle.simulation.specs.Promise.{stored-past}
 use Rattle.simulation.proofs.axis.mark.Statement.{statement}
 use Rattle.simulation.proofs.axis.mark.Tie as tie

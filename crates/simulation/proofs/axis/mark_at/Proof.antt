@@ -1,5 +1,4 @@
 use borrow.Author.Needs.{needs}
-use native.Mathlib.Omega.{arith}
 use Rattle.simulation.specs.Promise.{read-past}
 use Rattle.simulation.proofs.axis.mark_at.Statement.{statement}
 use Rattle.simulation.proofs.axis.mark_at.Tie as tie

@@ -1,5 +1,4 @@
 use borrow.Author.Needs.{needs}
-use native.Mathlib.Omega.{arith}
 use Rattle.simulation.proofs.Chained.{moved-by}
 use Rattle.simulation.proofs.axis.move_to.Statement.{statement}
 use Rattle.simulation.proofs.axis.move_to.Tie as tie

@@ -1,5 +1,4 @@
 use borrow.Author.Needs.{needs}
-use native.Mathlib.Omega.{arith}
 use Rattle.simulation.specs.Promise.{next-none, next-some}
 use Rattle.simulation.proofs.axis.next_of.Statement.{statement}
 use Rattle.simulation.proofs.axis.next_of.Tie as tie

@@ -1,5 +1,4 @@
 use borrow.Author.Needs.{needs}
-use native.Mathlib.Omega.{arith}
 use Rattle.simulation.proofs.Chained.{put-by}
 use Rattle.simulation.proofs.axis.put.Statement.{statement}
 use Rattle.simulation.proofs.axis.put.Tie as tie

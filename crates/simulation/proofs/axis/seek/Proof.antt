@@ -1,6 +1,6 @@
 use borrow.Author.Needs.{needs}
 use native.Mathlib.Omega.{arith}
-use Prim.Native.Nat.{_-_, _+_}
+use Prim.Native.Nat.{_-_}
 use Rattle.simulation.proofs.Seeks.{Seeks, seeks-start, seeks-turn, seeks-head, seeks-back, seeks-front, seeks-out}
 use Rattle.simulation.proofs.axis.seek.Statement.{statement}
 use Rattle.simulation.proofs.axis.seek.Tie as tie

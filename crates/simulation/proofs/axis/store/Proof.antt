@@ -1,5 +1,4 @@
 use borrow.Author.Needs.{needs}
-use native.Mathlib.Omega.{arith}
 use Rattle.simulation.specs.Promise.{stored-past}
 use Rattle.simulation.proofs.axis.store.Statement.{statement}
 use Rattle.simulation.proofs.axis.store.Tie as tie

@@ -1,5 +1,4 @@
 use borrow.Author.Needs.{needs}
-use native.Mathlib.Omega.{arith}
 use Rattle.simulation.proofs.Chained.{cancel-idle, cancel-4, cancel-0}
 use Rattle.simulation.proofs.procedures.cancel.Statement.{statement}
 use Rattle.simulation.proofs.procedures.cancel.Tie as tie

@@ -1,5 +1,4 @@
 use borrow.Author.Needs.{needs}
-use native.Mathlib.Omega.{arith}
 use Rattle.simulation.proofs.Chained.{finish-4, finish-0}
 use Rattle.simulation.proofs.procedures.finish.Statement.{statement}
 use Rattle.simulation.proofs.procedures.finish.Tie as tie

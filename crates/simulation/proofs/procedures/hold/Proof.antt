@@ -1,5 +1,4 @@
 use borrow.Author.Needs.{needs}
-use native.Mathlib.Omega.{arith}
 use Rattle.simulation.proofs.Chained.{hold-5, hold-0}
 use Rattle.simulation.proofs.procedures.hold.Statement.{statement}
 use Rattle.simulation.proofs.procedures.hold.Tie as tie

@@ -1,5 +1,4 @@
 use borrow.Author.Needs.{needs}
-use native.Mathlib.Omega.{arith}
 use Rattle.simulation.proofs.Chained.{held-last, held-soon, held-moved}
 use Rattle.simulation.proofs.procedures.hold_at.Statement.{statement}
 use Rattle.simulation.proofs.procedures.hold_at.Tie as tie

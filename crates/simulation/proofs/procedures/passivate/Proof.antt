@@ -1,5 +1,4 @@
 use borrow.Author.Needs.{needs}
-use native.Mathlib.Omega.{arith}
 use Rattle.simulation.proofs.Chained.{passive-4, passive-0}
 use Rattle.simulation.proofs.procedures.passivate.Statement.{statement}
 use Rattle.simulation.proofs.procedures.passivate.Tie as tie
