@@ -22,3 +22,4 @@ pub mod PlacedLaws
 pub mod AgreeTimed
 pub mod StepPromise
 pub mod ReadPromise
+pub mod Meaning
