@@ -23,3 +23,4 @@ pub mod AgreeTimed
 pub mod StepPromise
 pub mod ReadPromise
 pub mod Meaning
+pub mod QueryMeaning
