@@ -24,3 +24,4 @@ pub mod StepPromise
 pub mod ReadPromise
 pub mod Meaning
 pub mod QueryMeaning
+pub mod Situations
