@@ -25,3 +25,4 @@ pub mod ReadPromise
 pub mod Meaning
 pub mod QueryMeaning
 pub mod Situations
+pub mod Ties

@@ -146,9 +146,9 @@ situations =
     ∷ record { calls = activate 2 A (pos 5) ∷ activate 1 B (pos 5) ∷ []; want = axis (at M 0 ∷ at A 5 ∷ at B 5 ∷ []) }  --  4
     ∷ record { calls = activate 2 A (pos 5) ∷ activate 1 B (pos 5) ∷ activate 3 C (pos 5) ∷ []; want = axis (at M 0 ∷ at C 5 ∷ at A 5 ∷ at B 5 ∷ []) }  --  5
     ∷ record {
-        calls = activate 2 A (pos 5) ∷ activate 1 B (pos 5) ∷ activate 3 C (pos 5) ∷ holds (pos 5) ∷ [];
-        want = axis (at C 5 ∷ at A 5 ∷ at B 5 ∷ at M 5 ∷ []);
-      }  --  6
+      calls = activate 2 A (pos 5) ∷ activate 1 B (pos 5) ∷ activate 3 C (pos 5) ∷ holds (pos 5) ∷ [];
+      want = axis (at C 5 ∷ at A 5 ∷ at B 5 ∷ at M 5 ∷ []);
+    }  --  6
     ∷ record { calls = activate 2 A (pos 5) ∷ holds (pos 0) ∷ []; want = axis (at M 0 ∷ at A 5 ∷ []) }  --  7
     ∷ record { calls = activate 0 A (pos 0) ∷ holds (negsuc 2) ∷ []; want = axis (at M 0 ∷ at A 0 ∷ []) }  --  8
     ∷ record { calls = activate 2 A (pos 5) ∷ beside 5 A A ∷ []; want = axis (at M 0 ∷ at A 5 ∷ []) }  --  9

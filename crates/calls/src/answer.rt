@@ -1,0 +1,63 @@
+// The calls by their numbers. Each group of calls has a file with `has`, which numbers it takes, and `answer`.
+use crate::head::Head;
+use crate::judge_call;
+use crate::set_calls;
+use counts::Refusal;
+use model::answer::Answer;
+
+pub struct Reply {
+    pub code: u32,
+    pub lines: u32,
+    pub answer: u64,
+}
+
+pub fn accepted(answer: u64) -> Reply {
+    Reply {
+        code: 0,
+        lines: 0,
+        answer,
+    }
+}
+
+pub fn refused(r: Refusal) -> Reply {
+    Reply {
+        code: r.number(),
+        lines: 0,
+        answer: 0,
+    }
+}
+
+pub fn answered(a: Answer) -> Reply {
+    Reply {
+        code: a.code(),
+        lines: 0,
+        answer: a.value(),
+    }
+}
+
+// Is there such a call?
+pub fn known(call: u32) -> bool {
+    if set_calls::has(call) {
+        return true;
+    }
+    judge_call::has(call)
+}
+
+// Makes a known call on the tables of its request: a test for each group, and the last one takes what is left.
+pub fn answer(
+    head: Head,
+    links: &mut [u32],
+    axis: &mut [u32],
+    times: &mut [u64],
+    marks: &mut [u8],
+    accums: &mut [i64],
+    positions: &mut [u32],
+    sheet: &[u8],
+    trace: &mut [u8],
+) -> Reply {
+    let call = head.call;
+    if set_calls::has(call) {
+        return set_calls::answer(head, links, axis, times, marks);
+    }
+    judge_call::answer(head, links, axis, times, marks)
+}

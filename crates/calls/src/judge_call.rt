@@ -1,0 +1,20 @@
+// Call 0: refusals 1 and 2 of a model.
+use crate::answer::Reply;
+use crate::answer::accepted;
+use crate::answer::refused;
+use crate::head::Head;
+use model::judge::Verdict;
+use model::judge::judge_tables;
+
+pub fn has(call: u32) -> bool {
+    call == 0
+}
+
+pub fn answer(head: Head, links: &[u32], axis: &[u32], times: &[u64], marks: &[u8]) -> Reply {
+    let counts = head.counts;
+    let v = judge_tables(counts, links, axis, times, marks);
+    match v {
+        Verdict::Fine => accepted(0),
+        Verdict::Refused(r) => refused(r),
+    }
+}

@@ -1,0 +1,20 @@
+// A program for tests: reads requests, makes each call on the tables that a request brings, and writes a response for each.
+mod answer;
+mod contents;
+mod copying;
+mod flow;
+mod head;
+mod judge_call;
+mod respond;
+mod serve;
+mod set_calls;
+mod words;
+
+use serve::serve;
+
+// The buffers: a request or a response of the largest tables fits into each.
+fn main() {
+    let mut input = [0u8; 262144];
+    let mut output = [0u8; 262144];
+    serve(&mut input, &mut output);
+}

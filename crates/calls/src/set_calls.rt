@@ -1,0 +1,67 @@
+// Calls 1 to 5 and queries 12 and 20 to 24: the sets of SIMSET.
+use crate::answer::Reply;
+use crate::answer::answered;
+use crate::head::Head;
+use model::answer::Answer;
+use simset::calls;
+use simset::queries;
+
+fn is_call(call: u32) -> bool {
+    if call < 1 {
+        return false;
+    }
+    call < 6
+}
+
+fn is_query(call: u32) -> bool {
+    if call == 12 {
+        return true;
+    }
+    if call < 20 {
+        return false;
+    }
+    call < 25
+}
+
+pub fn has(call: u32) -> bool {
+    if is_call(call) {
+        return true;
+    }
+    is_query(call)
+}
+
+fn call_of(head: Head, links: &mut [u32], axis: &[u32], times: &[u64], marks: &[u8]) -> Answer {
+    let call = head.call;
+    let c = head.counts;
+    let x = head.x;
+    let y = head.y;
+    match call {
+        1 => calls::out(c, links, axis, times, marks, x),
+        2 => calls::follow(c, links, axis, times, marks, x, y),
+        3 => calls::precede(c, links, axis, times, marks, x, y),
+        4 => calls::into(c, links, axis, times, marks, x, y),
+        _ => calls::clear(c, links, axis, times, marks, x),
+    }
+}
+
+fn query_of(head: Head, links: &[u32], axis: &[u32], times: &[u64], marks: &[u8]) -> Answer {
+    let call = head.call;
+    let c = head.counts;
+    let x = head.x;
+    match call {
+        12 => queries::empty(c, links, axis, times, marks, x),
+        20 => queries::first(c, links, axis, times, marks, x),
+        21 => queries::last(c, links, axis, times, marks, x),
+        22 => queries::suc(c, links, axis, times, marks, x),
+        23 => queries::pred(c, links, axis, times, marks, x),
+        _ => queries::cardinal(c, links, axis, times, marks, x),
+    }
+}
+
+pub fn answer(head: Head, links: &mut [u32], axis: &[u32], times: &[u64], marks: &[u8]) -> Reply {
+    let call = head.call;
+    if is_call(call) {
+        return answered(call_of(head, links, axis, times, marks));
+    }
+    answered(query_of(head, links, axis, times, marks))
+}
