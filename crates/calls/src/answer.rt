@@ -1,6 +1,8 @@
 // The calls by their numbers. Each group of calls has a file with `has`, which numbers it takes, and `answer`.
+use crate::accum_calls;
 use crate::head::Head;
 use crate::judge_call;
+use crate::sequencing_calls;
 use crate::set_calls;
 use counts::Refusal;
 use model::answer::Answer;
@@ -40,6 +42,12 @@ pub fn known(call: u32) -> bool {
     if set_calls::has(call) {
         return true;
     }
+    if sequencing_calls::has(call) {
+        return true;
+    }
+    if accum_calls::has(call) {
+        return true;
+    }
     judge_call::has(call)
 }
 
@@ -58,6 +66,12 @@ pub fn answer(
     let call = head.call;
     if set_calls::has(call) {
         return set_calls::answer(head, links, axis, times, marks);
+    }
+    if sequencing_calls::has(call) {
+        return sequencing_calls::answer(head, links, axis, times, marks);
+    }
+    if accum_calls::has(call) {
+        return accum_calls::answer(head, links, axis, times, marks, accums);
     }
     judge_call::answer(head, links, axis, times, marks)
 }

@@ -1,4 +1,5 @@
 // A program for tests: reads requests, makes each call on the tables that a request brings, and writes a response for each.
+mod accum_calls;
 mod answer;
 mod contents;
 mod copying;
@@ -6,6 +7,7 @@ mod flow;
 mod head;
 mod judge_call;
 mod respond;
+mod sequencing_calls;
 mod serve;
 mod set_calls;
 mod words;

@@ -1,11 +1,9 @@
 -- A model's counts H, P and L, their limits, and the kinds of numbers: "heads first, then processes, then plain links, from 1;
 -- 0 means none".
-use Prim.Native.Nat.{ℕ, suc, _+_, _*_, _-_, _≤_, _<_}
+use Prim.Native.Nat.{ℕ, _+_, _-_, _≤_, _<_}
 use mathlib.Core.Path.{_≡_, refl, sym, _∙_}
 use mathlib.Core.Bool.{Bool, true, false, not, _&&_}
-use mathlib.Core.List.{List}
-use native.Mathlib.Omega.{arith}
-use lib.Dec.{leb, ltb, eqb}
+use lib.Dec.{leb, ltb}
 use borrow.Author.Tests.{leb-true, le-leb, lt-leb, not-true, not-false}
 use Rattle.ring.specs.Lists.{if_then_else_, test, clash}
 use Rattle.counts.specs.declared.Counts.{Counts}

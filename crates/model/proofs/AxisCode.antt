@@ -1,18 +1,18 @@
 -- The laws that the proofs of the axis's code cite.
-use Prim.Native.Nat.{ℕ, zero, suc, _+_, _*_, _-_, _<_, _≤_}
-use mathlib.Core.Path.{_≡_, refl, sym, ap, _∙_, subst}
+use Prim.Native.Nat.{ℕ, suc, _+_, _-_, _<_, _≤_}
+use mathlib.Core.Path.{_≡_, refl, sym, ap, _∙_}
 use mathlib.Core.Logic.{_≢_}
 use mathlib.Core.Bool.{Bool, true, false, not}
 use mathlib.Core.List.{List}
 use native.Mathlib.Omega.{arith}
-use lib.Dec.{eqb, leb, ltb}
-use lib.ListN.{length, getD}
+use lib.Dec.{eqb, leb}
+use lib.ListN.{getD}
 use borrow.Author.Tests.{eq-eqb, ne-eqb, not-true, not-false}
 use Rattle.ring.specs.Stores.{sucs, pres, suc-at}
 use Rattle.ring.specs.Judge.{idle, ringsFine}
-use Rattle.counts.specs.Counts.{limit, and-off, and-on}
+use Rattle.counts.specs.Counts.{limit}
 use Rattle.model.specs.Judge.{timeFine, markFine, placesFine, axisFine}
-use Rattle.model.specs.Tests.{time-idle, time-past, time-last, time-next, mark-none, mark-other, mark-main, mark-idle, places-none, places-time, places-mark, places-on}
+use Rattle.model.specs.Tests.{time-idle, time-past, time-last, time-next, places-none, places-time, places-mark, places-on}
 
 module _ (p : ℕ) (axis times : List ℕ) (y : ℕ) (zeros : Bool) (e : zeros ≡ idle (sucs (p + 2) axis) (pres (p + 2) axis) y) where
   pub t-idle : zeros ≡ true → eqb (getD times y 0) 0 ≡ timeFine (sucs (p + 2) axis) (pres (p + 2) axis) (p + 1) times y

@@ -1,7 +1,7 @@
 -- The loops that fill a table: zeros in every word, and an empty ring for each head. And the calls that make a fresh model.
 use Prim.Native.Nat.{ℕ, zero, suc, _+_, _*_, _-_, _<_, _≤_}
 use mathlib.Core.Path.{_≡_, refl, sym, ap, ap₂, _∙_}
-use mathlib.Core.Bool.{Bool, true, false, not, _&&_}
+use mathlib.Core.Bool.{Bool, true, false, not}
 use mathlib.Core.List.{List, [], _∷_, _++_}
 use native.Mathlib.Omega.{arith}
 use native.Mathlib.Numerals.{add-one}
@@ -14,10 +14,9 @@ use Rattle.ring.specs.Spell.{spells-sound}
 use Rattle.ring.specs.Empty.{length-zeros}
 use Rattle.counts.specs.declared.Counts.{Counts}
 use Rattle.counts.specs.declared.Refusal.the-variants.{Size}
-use Rattle.model.specs.declared.judge.Verdict.{Verdict}
 use Rattle.model.specs.declared.judge.Verdict.the-variants.{Fine, Refused}
 use Rattle.counts.specs.Counts.{inLimits, total}
-use Rattle.model.specs.Tables.{Tables, After, Sized, axisHead}
+use Rattle.model.specs.Tables.{Tables, Sized, axisHead}
 use Rattle.model.specs.Judge.{lengthsFine}
 use Rattle.model.specs.Fresh.{freshHeads, freshAxis, freshTables, freshed, heads-length, started}
 

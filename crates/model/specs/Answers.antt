@@ -1,9 +1,6 @@
 -- Answers: each case's code and value; and a call that first judges its tables.
 use Prim.Native.Nat.{ℕ}
-use mathlib.Core.Path.{_≡_, refl, sym, ap, _∙_}
-use mathlib.Core.Bool.{Bool, true, false}
-use mathlib.Core.List.{List}
-use Rattle.ring.specs.Lists.{if_then_else_}
+use mathlib.Core.Path.{_≡_, sym, ap, _∙_}
 use Rattle.counts.specs.declared.Counts.{Counts}
 use Rattle.counts.specs.declared.Refusal.{Refusal}
 use Rattle.counts.specs.Refusals.{refusalNumber}

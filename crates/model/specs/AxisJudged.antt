@@ -1,40 +1,26 @@
 -- The judge of the axis answers yes exactly where there are events that the axis spells, with their times and marks.
-use Prim.Native.Nat.{ℕ, zero, suc, _+_, _*_, _-_, _<_, _≤_}
-use mathlib.Core.Path.{_≡_, refl, sym, ap, _∙_, subst}
+use Prim.Native.Nat.{ℕ, _+_, _*_, _-_, _<_, _≤_}
+use mathlib.Core.Path.{_≡_, refl, sym, ap, _∙_}
 use mathlib.Core.Logic.{_≢_, _⊎_, inl, inr, ⊎-elim}
-use mathlib.Core.Bool.{Bool, true, false}
+use mathlib.Core.Bool.{true, false}
 use mathlib.Core.List.{List, [], _∷_}
 use native.Mathlib.Omega.{arith}
-use lib.Dec.{eqb, leb, ltb}
+use lib.Dec.{eqb}
 use lib.ListN.{length, getD}
 use lib.Seq.{getD-take}
 use borrow.Author.Tests.{eq-eqb, ne-eqb, eqb-true, eqb-false}
 use Rattle.counts.specs.Counts.{limit, both}
-use Rattle.ring.specs.Lists.{if_then_else_, In, decide, below, test, clash}
-use Rattle.ring.specs.Chain.{Edge, Chain, next-in}
-use Rattle.ring.specs.Rings.{Head, Link, Rings, apart, rings-cong, free}
-use Rattle.ring.specs.Stores.{sucs, pres, suc-at}
-use Rattle.ring.specs.Spell as ring
+use Rattle.ring.specs.Lists.{In, decide, clash}
+use Rattle.ring.specs.Chain.{Chain, next-in}
+use Rattle.ring.specs.Rings.{Head, Rings, apart, rings-cong, free}
+use Rattle.ring.specs.Stores.{sucs, pres}
 use Rattle.model.specs.Tables.{axisHead, SpellsAxis}
 use Rattle.ring.specs.Judge.{idle, ringsFine}
 use Rattle.ring.specs.Busy.{idle-not, zeros-idle}
 use Rattle.ring.specs.Rows.{Layout}
 use Rattle.ring.specs.Fine.{sound, complete}
 use Rattle.model.specs.Judge.{placesFine, axisFine}
-use Rattle.model.specs.Tests.{
-  NeverFall,
-  unless,
-  time-idle,
-  time-mean,
-  mean-time,
-  mark-none,
-  mark-idle,
-  mark-mean,
-  places-mean,
-  mean-places,
-  never-fall,
-  order-next,
-}
+use Rattle.model.specs.Tests.{NeverFall, unless, time-idle, time-mean, mean-time, mark-none, mark-idle, mark-mean, places-mean, mean-places, never-fall, order-next}
 
 -- the places with a notice, in order; times and marks as the paper has them
 pub record AxisSpelled (p : ℕ) (events axis times marks : List ℕ) : Type 0 where

@@ -1,48 +1,26 @@
 -- The judge of tables answers yes exactly where they are well formed.
-use Prim.Native.Nat.{ℕ, zero, suc, _+_, _*_, _-_, _<_, _≤_}
-use mathlib.Core.Path.{_≡_, refl, sym, ap, _∙_, subst}
-use mathlib.Core.Logic.{_≢_, _⊎_, inl, inr, ⊎-elim}
-use mathlib.Core.Bool.{Bool, true, false}
-use mathlib.Core.List.{List, [], _∷_}
+use Prim.Native.Nat.{ℕ, _+_, _*_, _-_, _<_, _≤_}
+use mathlib.Core.Path.{_≡_, sym, ap, _∙_, subst}
+use mathlib.Core.Logic.{_⊎_, inl, inr, ⊎-elim}
+use mathlib.Core.Bool.{true}
+use mathlib.Core.List.{List}
 use native.Mathlib.Omega.{arith}
 use lib.ListN.{length, getD}
 use borrow.Author.Tests.{leb-true, leb-false, le-leb, lt-leb}
 use Rattle.ring.specs.Lists.{In, decide, test, inside}
 use Rattle.ring.specs.Distinct.{Dist}
-use Rattle.ring.specs.Rings.{Head}
 use Rattle.ring.specs.Stores.{sucs, pres}
 use Rattle.ring.specs.Spell.{spells-dist}
 use Rattle.ring.specs.Rows.{Layout}
 use Rattle.ring.specs.Fine.{sound, complete}
 use Rattle.counts.specs.declared.Counts.{Counts}
-use Rattle.counts.specs.Counts.{total, main, both, and-on}
-use Rattle.model.specs.Notices.{Notice, whos, places, dueOf}
+use Rattle.counts.specs.Counts.{total, both, and-on}
+use Rattle.model.specs.Notices.{whos, places, dueOf}
 use Rattle.ring.specs.Tabulate.{has, bit, table-at, at-table, has-in}
 use Rattle.model.specs.Tables.{Tables, Lengths, Lists, setHead, axisHead, SpellsSets, Spells, WellFormed}
 use Rattle.model.specs.Judge.{linksFine, axisFine, tablesFine}
 use Rattle.model.specs.AxisJudged.{AxisSpelled, axis-sound, axis-complete, axis-head, axis-event}
-use Rattle.model.specs.Reading.{
-  Timed,
-  noticesOf,
-  places-of,
-  length-of,
-  due-in,
-  due-out,
-  order-of,
-  within-of,
-  whos-of,
-  endedOf,
-  ended-mark,
-  mark-is,
-  who-place,
-  place-who,
-  dist-whos,
-  length-places,
-  due-none,
-  timed,
-  within-timed,
-  order-timed,
-}
+use Rattle.model.specs.Reading.{Timed, noticesOf, places-of, length-of, due-in, due-out, order-of, within-of, whos-of, endedOf, ended-mark, mark-is, who-place, place-who, dist-whos, length-places, due-none, timed, within-timed, order-timed}
 
 -- ---- the sets: the heads 1 .. H, and the links H + 1 .. m - 1
 
@@ -147,7 +125,7 @@ module _ (c : Counts) (l : Lists) (t : Tables) (s : Spells c l t) where
             decide y 0
             (λ e. rw e (ap (λ (k : List ℕ). getD k 0 0) (s .times)))
             (λ n. table-at (λ p. dueOf (c .heads + p) (l .notices)) (c .processes) (t .times) (s .times) y (omega arith) b
-            ∙ due-none c (l .notices) (c .heads + y)
+            ∙ due-none (l .notices) (c .heads + y)
             (λ k. out (subst (λ (j : ℕ). In j (places c (l .notices))) (omega arith) (who-place c (l .notices) (c .heads + y) k))));
         marked = λ y b.
             decide y 0

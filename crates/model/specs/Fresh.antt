@@ -2,27 +2,25 @@
 use Prim.Native.Nat.{ℕ, zero, suc, _+_, _*_, _-_, _<_, _≤_}
 use mathlib.Core.Path.{_≡_, refl, sym, ap, _∙_, subst}
 use mathlib.Core.Logic.{_≢_, _⊎_, inl, inr, ⊎-elim}
-use mathlib.Core.Bool.{Bool, true, false, not, _&&_}
+use mathlib.Core.Bool.{_&&_}
 use mathlib.Core.List.{List, [], _∷_}
 use native.Mathlib.Omega.{arith}
-use lib.Dec.{eqb}
-use lib.ListN.{length, getD, take, replicate, length-replicate, length-set}
-use borrow.Author.Tests.{eq-eqb, eqb-true, eqb-false, ne-eqb, leb-true, leb-false, not-true, not-false}
-use Rattle.ring.specs.Lists.{if_then_else_, In, ahead, decide, zeros}
-use Rattle.ring.specs.Rings.{Head, Link}
+use lib.ListN.{length, getD, replicate, length-replicate}
+use borrow.Author.Tests.{eq-eqb, eqb-true, eqb-false, ne-eqb, leb-true, leb-false}
+use Rattle.ring.specs.Lists.{if_then_else_, ahead, decide, zeros}
+use Rattle.ring.specs.Rings.{Link}
 use Rattle.ring.specs.Table.{selfLinked, linkedBefore}
 use Rattle.ring.specs.Stores.{sucs, pres, suc-at}
 use Rattle.ring.specs.Spell.{spells-before, spells-cong}
-use Rattle.ring.specs.Spell as ring
 use Rattle.ring.specs.Empty.{spells-empty, length-zeros, getD-zeros, self-length, self-s, self-p, other-s, other-p}
 use Rattle.counts.specs.declared.Counts.{Counts}
 use Rattle.counts.specs.declared.Refusal.the-variants.{Size}
 use Rattle.model.specs.declared.judge.Verdict.{Verdict}
 use Rattle.model.specs.declared.judge.Verdict.the-variants.{Fine, Refused}
-use Rattle.counts.specs.Counts.{inLimits, Allowed, total, main, limit}
-use Rattle.model.specs.Notices.{Notice, dueOf}
-use Rattle.ring.specs.Tabulate.{listed, has, at-table}
-use Rattle.model.specs.Tables.{Tables, Lists, Lengths, Sized, After, setHead, axisHead, membersOf, SpellsSets, SpellsAxis, Spells}
+use Rattle.counts.specs.Counts.{inLimits, Allowed, total, main}
+use Rattle.model.specs.Notices.{dueOf}
+use Rattle.ring.specs.Tabulate.{listed, at-table}
+use Rattle.model.specs.Tables.{Tables, Lists, After, setHead, axisHead, membersOf, SpellsSets, SpellsAxis, Spells}
 use Rattle.model.specs.Judge.{lengthsFine}
 use Rattle.model.specs.AxisJudged.{axis-head, axis-layout}
 

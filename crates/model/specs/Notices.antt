@@ -1,7 +1,5 @@
 -- Event notices as a plain list: the sequencing set in order, the first notice being the current process's.
-use Prim.Native.Nat.{ℕ, zero, suc, _≤_}
-use mathlib.Core.Path.{_≡_}
-use mathlib.Core.Bool.{Bool, true, false}
+use Prim.Native.Nat.{ℕ, _≤_}
 use mathlib.Core.List.{List, [], _∷_, map}
 use lib.Dec.{eqb}
 use Rattle.ring.specs.Lists.{if_then_else_}

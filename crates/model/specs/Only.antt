@@ -1,18 +1,16 @@
 -- The lists that tables spell are unique: the sets and the notices are equal, and the same processes are terminated.
-use Prim.Native.Nat.{ℕ, zero, suc, _+_, _-_, _<_, _≤_}
-use mathlib.Core.Path.{_≡_, refl, sym, ap, _∙_, subst}
-use mathlib.Core.Logic.{_≢_}
-use mathlib.Core.Bool.{Bool, true, false}
-use mathlib.Core.List.{List, [], _∷_}
+use Prim.Native.Nat.{ℕ, _+_, _-_, _<_}
+use mathlib.Core.Path.{_≡_, sym, ap, _∙_, subst}
+use mathlib.Core.List.{List, []}
 use native.Mathlib.Omega.{arith}
-use lib.ListN.{length, getD}
+use lib.ListN.{getD}
 use lib.Seq.{ext-getD}
 use borrow.Author.Tests.{le-leb}
 use Rattle.ring.specs.Lists.{In}
 use Rattle.ring.specs.Spell.{spells-one}
 use Rattle.counts.specs.declared.Counts.{Counts}
 use Rattle.counts.specs.Counts.{total}
-use Rattle.model.specs.Notices.{Notice, whos, places}
+use Rattle.model.specs.Notices.{places}
 use Rattle.ring.specs.Tabulate.{has, bit, table-at, has-in, in-has, bit-one}
 use Rattle.model.specs.Tables.{Tables, Lists, setHead, axisHead, membersOf, SpellsSets, Spells}
 use Rattle.model.specs.AxisJudged.{axis-head}

@@ -1,8 +1,7 @@
 -- Events of the axis with their times, read as notices, and marks read as terminated processes; and back.
 use Prim.Native.Nat.{ℕ, zero, suc, _+_, _-_, _<_, _≤_}
 use mathlib.Core.Path.{_≡_, refl, sym, ap, ap₂, _∙_}
-use mathlib.Core.Logic.{_≢_, _⊎_, inl, inr, ⊎-elim}
-use mathlib.Core.Bool.{Bool, true, false}
+use mathlib.Core.Logic.{_⊎_, inl, inr, ⊎-elim}
 use mathlib.Core.List.{List, [], _∷_}
 use native.Mathlib.Omega.{arith}
 use lib.Dec.{eqb}
@@ -106,6 +105,11 @@ module _ (H : ℕ) (marks : List ℕ) where
 
 -- ---- from notices to events
 
+-- no notice, no time
+pub due-none : (ns : List Notice) (x : ℕ) → (In x (whos ns) → ⊥) → dueOf x ns ≡ 0
+due-none [] x out = refl
+due-none (n ∷ ns) x out = rw (ne-eqb (n .who) x (λ e. out (inl (sym e)))) (due-none ns x (λ i. out (inr i)))
+
 -- each notice's time stands in the table, at its place
 abbrev pub Timed : Counts → List ℕ → List Notice → Type 0
 Timed c times [] = Unit {0}
@@ -127,10 +131,6 @@ module _ (c : Counts) where
   pub length-places : (ns : List Notice) → length (places c ns) ≡ length ns
   length-places [] = refl
   length-places (n ∷ ns) = ap suc (length-places ns)
-
-  pub due-none : (ns : List Notice) (x : ℕ) → (In x (whos ns) → ⊥) → dueOf x ns ≡ 0
-  due-none [] x out = refl
-  due-none (n ∷ ns) x out = rw (ne-eqb (n .who) x (λ e. out (inl (sym e)))) (due-none ns x (λ i. out (inr i)))
 
   pub timed : (times : List ℕ) (ns : List Notice) → Dist (whos ns) → ((x : ℕ) → In x (whos ns) → getD times (x - c .heads) 0 ≡ dueOf x ns) → Timed c times ns
   timed times [] d f = tt

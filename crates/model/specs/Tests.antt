@@ -1,16 +1,16 @@
 -- The tests of one place of the axis: their clauses, and what they mean.
 use Prim.Native.Nat.{ℕ, zero, suc, _+_, _*_, _-_, _<_, _≤_}
-use mathlib.Core.Path.{_≡_, refl, sym, ap, _∙_, subst}
+use mathlib.Core.Path.{_≡_, refl, sym, ap, _∙_}
 use mathlib.Core.Logic.{_≢_, _⊎_, inl, inr, ⊎-elim}
 use mathlib.Core.Bool.{Bool, true, false}
 use mathlib.Core.List.{List, [], _∷_}
 use native.Mathlib.Omega.{arith}
-use lib.Dec.{eqb, leb, ltb}
+use lib.Dec.{eqb, leb}
 use lib.ListN.{length, getD}
-use borrow.Author.Tests.{eq-eqb, ne-eqb, eqb-true, le-leb, lt-leb, leb-true, lt-ltb, le-ltb}
-use Rattle.counts.specs.Counts.{limit, both}
+use borrow.Author.Tests.{eq-eqb, ne-eqb, le-leb, lt-leb, leb-true, lt-ltb, le-ltb}
+use Rattle.counts.specs.Counts.{limit}
 use Rattle.ring.specs.Lists.{if_then_else_, In, decide, below, test, clash}
-use Rattle.ring.specs.Chain.{Edge, Chain}
+use Rattle.ring.specs.Chain.{Chain}
 use Rattle.ring.specs.Judge.{idle}
 use Rattle.model.specs.Judge.{timeFine, markFine, placesFine}
 

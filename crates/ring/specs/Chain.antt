@@ -1,10 +1,10 @@
 -- Chains of two-way rings, over two functions: S the successor, P the predecessor.
-use Prim.Native.Nat.{ℕ, zero, suc, _<_, _≤_}
-use mathlib.Core.Path.{_≡_, refl, sym, ap, _∙_}
+use Prim.Native.Nat.{ℕ}
+use mathlib.Core.Path.{_≡_, sym, ap, _∙_}
 use mathlib.Core.Logic.{_≢_, _⊎_, inl, inr, ⊎-elim}
 use mathlib.Core.List.{List, [], _∷_}
 use borrow.Author.Tests.{eq-eqb, ne-eqb}
-use Rattle.ring.specs.Lists.{if_then_else_, In, without, behind, ahead, decide}
+use Rattle.ring.specs.Lists.{In, without, behind, ahead, decide}
 use Rattle.ring.specs.Distinct.{Dist}
 
 -- a is followed by b

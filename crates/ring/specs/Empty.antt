@@ -1,17 +1,15 @@
 -- New heads with empty rings in a table of zeros.
-use Prim.Native.Nat.{ℕ, zero, suc, _+_, _*_, _<_, _≤_}
-use mathlib.Core.Path.{_≡_, refl, sym, ap, _∙_}
-use mathlib.Core.Logic.{_≢_, _⊎_, inl, inr, ⊎-elim}
-use mathlib.Core.Bool.{Bool, true, false}
-use mathlib.Core.List.{List, [], _∷_}
+use Prim.Native.Nat.{ℕ, _*_, _<_}
+use mathlib.Core.Path.{_≡_}
+use mathlib.Core.Logic.{_≢_, inr}
+use mathlib.Core.Bool.{Bool}
+use mathlib.Core.List.{List, []}
 use native.Mathlib.Omega.{arith}
-use lib.ListN.{length, getD, take, set, replicate, length-set, length-replicate, getD-replicate, List·getD-eq-default}
-use lib.Seq.{getD-take}
-use Rattle.ring.specs.Lists.{In, decide, below, zeros}
-use Rattle.ring.specs.Chain.{Edge}
+use lib.ListN.{length, getD, length-set, length-replicate, getD-replicate, List·getD-eq-default}
+use Rattle.ring.specs.Lists.{below, zeros}
 use Rattle.ring.specs.Rings.{Head, Link}
 use Rattle.ring.specs.Table.{selfLinked}
-use Rattle.ring.specs.Stores.{sucs, pres, stores, suc-at}
+use Rattle.ring.specs.Stores.{sucs, pres, stores}
 use Rattle.ring.specs.Spell.{Spells}
 
 -- heads that follow themselves, links with two zeros: every list is empty

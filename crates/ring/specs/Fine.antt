@@ -1,15 +1,12 @@
 -- The judge answers yes exactly where there are lists.
-use Prim.Native.Nat.{ℕ, zero, suc, _+_, _*_, _-_, _<_, _≤_}
-use mathlib.Core.Path.{_≡_, refl, sym, ap, _∙_, subst}
-use mathlib.Core.Logic.{_≢_, _⊎_, inl, inr, ⊎-elim}
+use Prim.Native.Nat.{ℕ, _+_, _-_, _≤_}
+use mathlib.Core.Path.{_≡_, sym, ap, _∙_, subst}
+use mathlib.Core.Logic.{_⊎_, inl, inr, ⊎-elim}
 use mathlib.Core.Bool.{Bool, true, false}
-use mathlib.Core.List.{List, [], _∷_}
+use mathlib.Core.List.{List, []}
 use native.Mathlib.Omega.{arith}
-use lib.Dec.{eqb, leb}
 use lib.ListN.{length, getD}
-use borrow.Author.Tests.{leb-true, leb-false, le-leb, lt-leb}
 use Rattle.ring.specs.Lists.{In, test, clash}
-use Rattle.ring.specs.Chain.{Chain}
 use Rattle.ring.specs.Rings.{Head, Link, Rings}
 use Rattle.ring.specs.Judge.{idle, busy, closed, ringsFine}
 use Rattle.ring.specs.Distinct.{joined, fits, covers}

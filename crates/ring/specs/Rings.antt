@@ -1,15 +1,15 @@
 -- Rings over m places and a set of heads: each head h is followed by the members L h, and then by itself; a link is a member of
 -- a ring or has no successor and no predecessor.
-use Prim.Native.Nat.{ℕ, zero, suc, _<_, _≤_}
+use Prim.Native.Nat.{ℕ, _<_, _≤_}
 use mathlib.Core.Path.{_≡_, refl, sym, ap, _∙_}
 use mathlib.Core.Logic.{_≢_, _⊎_, inl, inr, ⊎-elim}
 use mathlib.Core.Bool.{Bool, true, false}
-use mathlib.Core.List.{List, [], _∷_}
+use mathlib.Core.List.{List, _∷_}
 use native.Mathlib.Omega.{arith}
 use lib.ListN.{length}
 use Rattle.ring.specs.Lists.{In, without, behind, decide, clash, in-without, without-in, without-none, in-behind, behind-old, behind-new}
 use Rattle.ring.specs.Distinct.{Dist, pigeon}
-use Rattle.ring.specs.Chain.{Edge, Chain, next-in, prev-in, Cut, cut-chain, Put, put-chain}
+use Rattle.ring.specs.Chain.{Chain, next-in, prev-in, Cut, cut-chain, Put, put-chain}
 use Rattle.ring.specs.Unique.{same-chain, suffix, same-end, dist-chain}
 
 pub record Head (m : ℕ) (isHead : ℕ → Bool) (h : ℕ) : Type 0 where

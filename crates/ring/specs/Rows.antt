@@ -1,16 +1,16 @@
 -- The rings of heads that follow each other, as a list of lists; together their members are distinct.
-use Prim.Native.Nat.{ℕ, zero, suc, _+_, _*_, _-_, _<_, _≤_}
+use Prim.Native.Nat.{ℕ, zero, suc, _+_, _-_, _<_, _≤_}
 use mathlib.Core.Path.{_≡_, refl, sym, ap, _∙_, subst}
-use mathlib.Core.Logic.{_≢_, _⊎_, inl, inr, ⊎-elim}
+use mathlib.Core.Logic.{_≢_, _⊎_, inr, ⊎-elim}
 use mathlib.Core.Bool.{Bool, true, false}
-use mathlib.Core.List.{List, [], _∷_, _++_}
+use mathlib.Core.List.{List, [], _∷_}
 use native.Mathlib.Omega.{arith}
 use native.Mathlib.Nat.{not-suc-le-zero}
 use lib.Dec.{eqb}
 use lib.ListN.{length, getD, length-append}
 use borrow.Author.Tests.{eq-eqb, ne-eqb, eqb-true}
-use Rattle.ring.specs.Lists.{In, decide, test, clash}
-use Rattle.ring.specs.Chain.{Edge, Chain, next-in}
+use Rattle.ring.specs.Lists.{In, clash}
+use Rattle.ring.specs.Chain.{Chain, next-in}
 use Rattle.ring.specs.Unique.{suffix, same-end, dist-chain}
 use Rattle.ring.specs.Rings.{Head, Link, apart}
 use Rattle.ring.specs.Judge.{walk, closed, idle}

@@ -2,34 +2,15 @@
 use Prim.Native.Nat.{ℕ, zero, suc, _+_, _*_, _-_, _<_, _≤_}
 use mathlib.Core.Path.{_≡_, refl, sym, ap, _∙_}
 use mathlib.Core.Logic.{_≢_, _⊎_, inl, inr, ⊎-elim}
-use mathlib.Core.Bool.{Bool, true, false}
+use mathlib.Core.Bool.{Bool}
 use mathlib.Core.List.{List, [], _∷_}
 use native.Mathlib.Omega.{arith}
 use lib.ListN.{length, getD, length-set, List·getD-eq-default}
 use borrow.Author.Tests.{eq-eqb, ne-eqb}
 use Rattle.ring.specs.Lists.{In, without, behind, ahead, decide, below}
 use Rattle.ring.specs.Distinct.{Dist}
-use Rattle.ring.specs.Chain.{Edge, Chain, forth, back, prev-in, no-self, behind-ahead}
-use Rattle.ring.specs.Rings.{
-  Head,
-  Link,
-  Rings,
-  apart,
-  kind,
-  rings-cong,
-  on-place,
-  next-on,
-  next-place,
-  prev-place,
-  not-own,
-  rings-dist,
-  rings-apart,
-  rings-few,
-  rings-one,
-  idle-rings,
-  cut-rings,
-  put-rings,
-}
+use Rattle.ring.specs.Chain.{Chain, forth, back, prev-in, no-self, behind-ahead}
+use Rattle.ring.specs.Rings.{Head, Link, Rings, apart, kind, rings-cong, on-place, next-on, next-place, prev-place, not-own, rings-dist, rings-apart, rings-few, rings-one, idle-rings, cut-rings, put-rings}
 use Rattle.ring.specs.Table.{Sound, cut, join, joinBefore, unlinked, linkedBehind, linkedBefore, steps, counted, steps-here, steps-on}
 use Rattle.ring.specs.Stores.{sucs, pres, suc-at, cut-is, cut-x, join-is, before-is}
 

@@ -1,13 +1,13 @@
 -- What follows from a chain alone: its members are distinct, its list is the only one, and two chains through a place have one end.
-use Prim.Native.Nat.{ℕ, _<_, _≤_}
+use Prim.Native.Nat.{ℕ, _<_}
 use mathlib.Core.Path.{_≡_, refl, sym, ap, ap₂, _∙_, subst}
-use mathlib.Core.Logic.{_≢_, inl, inr}
+use mathlib.Core.Logic.{inl, inr}
 use mathlib.Core.List.{List, [], _∷_}
 use native.Mathlib.Omega.{arith}
 use lib.ListN.{length}
 use Rattle.ring.specs.Lists.{In}
 use Rattle.ring.specs.Distinct.{Dist}
-use Rattle.ring.specs.Chain.{Edge, Chain}
+use Rattle.ring.specs.Chain.{Chain}
 
 module _ (S P : ℕ → ℕ) where
   -- two chains from a to b are one

@@ -1,10 +1,8 @@
 -- The set calls on judged tables: refusal 3, or the procedure.
 use Prim.Native.Nat.{ℕ, _+_}
-use mathlib.Core.Path.{_≡_}
 use mathlib.Core.Bool.{Bool, true, false, _&&_, _||_}
 use mathlib.Core.List.{List}
 use lib.Dec.{eqb}
-use Rattle.ring.specs.Lists.{if_then_else_}
 use Rattle.ring.specs.Table.{unlinked}
 use Rattle.counts.specs.declared.Counts.{Counts}
 use Rattle.counts.specs.declared.Refusal.the-variants.{Operand}

@@ -1,14 +1,13 @@
 -- Clear empties the list of its head: the fuel never runs out.
 use Prim.Native.Nat.{ℕ, zero, suc, _+_, _-_, _<_, _≤_}
 use mathlib.Core.Path.{_≡_, refl, sym, ap, _∙_, subst}
-use mathlib.Core.Logic.{_≢_, _⊎_, inl, inr, ⊎-elim}
-use mathlib.Core.Bool.{Bool, true, false}
-use mathlib.Core.List.{List, [], _∷_, map}
+use mathlib.Core.Logic.{inl}
+use mathlib.Core.List.{List, [], _∷_}
 use native.Mathlib.Omega.{arith}
 use lib.ListN.{length, getD, set, length-map, length-set, List·getD-map}
 use lib.Seq.{ext-getD, getD-set-same, getD-set-other, set-getD, set-set}
 use borrow.Author.Tests.{leb-true, eq-eqb}
-use Rattle.ring.specs.Lists.{if_then_else_, In, without, decide, without-none}
+use Rattle.ring.specs.Lists.{In, without, decide, without-none}
 use Rattle.ring.specs.Chain.{Chain}
 use Rattle.ring.specs.Rings.{Head, Link, Rings, rings-apart, rings-dist}
 use Rattle.ring.specs.Table.{unlinked}
@@ -17,7 +16,7 @@ use Rattle.ring.specs.Spell.{spells-few}
 use Rattle.model.specs.Tables.{setHead, membersOf, SpellsSets}
 use Rattle.simset.specs.Sets.{outSets, clearSets}
 use Rattle.simset.specs.Procedures.{clearing, cleared}
-use Rattle.simset.specs.Moves.{clearing-none, clearing-done, clearing-on, cleared-is}
+use Rattle.simset.specs.Moves.{clearing-done, clearing-on, cleared-is}
 use Rattle.simset.specs.Laws.{set-head, sets-out}
 
 module _ (m H : ℕ) (sets : List (List ℕ)) (t : List ℕ) (s : SpellsSets m H sets t) (b : H < m) (h : ℕ) (a : Head m (setHead H) h) where

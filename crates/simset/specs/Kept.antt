@@ -1,6 +1,6 @@
 -- A refused set call changes nothing, whatever the tables.
 use Prim.Native.Nat.{ℕ, _+_}
-use mathlib.Core.Path.{_≡_, refl, sym, ap, _∙_}
+use mathlib.Core.Path.{_≡_, refl, ap}
 use mathlib.Core.Bool.{Bool, true, false, _&&_}
 use mathlib.Core.List.{List}
 use Rattle.ring.specs.Lists.{clash}
@@ -8,11 +8,10 @@ use Rattle.ring.specs.Table.{unlinked}
 use Rattle.counts.specs.declared.Counts.{Counts}
 use Rattle.counts.specs.declared.Refusal.{Refusal}
 use Rattle.counts.specs.Counts.{total, isHead, isLink, isLinkage}
-use Rattle.model.specs.declared.answer.Answer.{Answer}
-use Rattle.model.specs.declared.answer.Answer.the-variants.{Done, Refused}
+use Rattle.model.specs.declared.answer.Answer.the-variants.{Refused}
 use Rattle.model.specs.declared.judge.Verdict.{Verdict}
 use Rattle.model.specs.declared.judge.Verdict.the-variants.{Fine, Refused as Turned}
-use Rattle.model.specs.Tables.{Tables, After}
+use Rattle.model.specs.Tables.{Tables}
 use Rattle.model.specs.Judge.{judged}
 use Rattle.model.specs.Answers.{turning, called}
 use Rattle.simset.specs.Procedures.{followed, preceded, cleared}

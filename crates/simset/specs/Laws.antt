@@ -1,38 +1,21 @@
 -- The procedures do to the sets what the list operations say, for every table that spells sets.
-use Prim.Native.Nat.{ℕ, zero, suc, _+_, _*_, _-_, _<_, _≤_}
+use Prim.Native.Nat.{ℕ, _+_, _-_, _<_, _≤_}
 use mathlib.Core.Path.{_≡_, refl, sym, ap, _∙_, subst}
 use mathlib.Core.Logic.{_≢_, _⊎_, inl, inr, ⊎-elim}
-use mathlib.Core.Bool.{Bool, true, false}
-use mathlib.Core.List.{List, [], _∷_, map}
+use mathlib.Core.List.{List, [], _∷_}
 use native.Mathlib.Omega.{arith}
-use lib.ListN.{length, getD, set, length-map, length-set, List·getD-map}
-use lib.Seq.{ext-getD, getD-set-same, getD-set-other, set-getD, set-set}
-use borrow.Author.Tests.{leb-true, le-leb, eq-eqb, ne-eqb}
-use Rattle.ring.specs.Lists.{if_then_else_, In, without, behind, ahead, decide, without-none, without-gone, behind-none}
-use Rattle.ring.specs.Distinct.{Dist}
-use Rattle.ring.specs.Chain.{Chain}
-use Rattle.ring.specs.Rings.{Head, Link, Rings, kind, next-place, rings-apart}
+use lib.ListN.{length, getD, length-map, List·getD-map}
+use borrow.Author.Tests.{leb-true, le-leb}
+use Rattle.ring.specs.Lists.{In, without, behind, ahead, decide, without-gone, behind-none}
+use Rattle.ring.specs.Rings.{Head, Link, Rings, kind, next-place}
 use Rattle.ring.specs.Table.{unlinked, linkedBehind, linkedBefore}
 use Rattle.ring.specs.Stores.{sucs, pres, suc-at}
-use Rattle.ring.specs.Spell.{spells-cong, spells-unlinked, spells-behind, spells-before, spells-dist, spells-few}
+use Rattle.ring.specs.Spell.{spells-cong, spells-unlinked, spells-behind, spells-before}
 use Rattle.ring.specs.Spell as ring
 use Rattle.model.specs.Tables.{setHead, membersOf, SpellsSets}
-use Rattle.simset.specs.Sets.{onSets, outSets, putBehind, putAhead, followSets, precedeSets, clearSets}
-use Rattle.simset.specs.Procedures.{followOn, followed, precedeOn, preceded, clearing, cleared}
-use Rattle.simset.specs.Moves.{
-  follow-none,
-  follow-off,
-  follow-on,
-  precede-none,
-  precede-off,
-  precede-on,
-  followed-is,
-  preceded-is,
-  clearing-none,
-  clearing-done,
-  clearing-on,
-  cleared-is,
-}
+use Rattle.simset.specs.Sets.{onSets, outSets, putBehind, putAhead, followSets, precedeSets}
+use Rattle.simset.specs.Procedures.{followed, preceded}
+use Rattle.simset.specs.Moves.{follow-none, follow-off, follow-on, precede-none, precede-off, precede-on, followed-is, preceded-is}
 use Rattle.simset.specs.OnSets.{length-on, getD-on, on-same, ahead-none}
 
 -- the heads are 1 .. H

@@ -1,20 +1,18 @@
 -- What each set call means, for every well-formed model: the tables after it spell the lists after the plain operation, and a query
 -- answers what the lists say. Refused calls change nothing.
-use Prim.Native.Nat.{ℕ, zero, suc, _+_, _-_, _<_, _≤_}
-use mathlib.Core.Path.{_≡_, refl, sym, ap, _∙_, subst}
-use mathlib.Core.Bool.{Bool, true, false, _&&_}
-use mathlib.Core.List.{List, [], _∷_}
+use Prim.Native.Nat.{ℕ, _+_, _-_, _<_}
+use mathlib.Core.Path.{_≡_, refl, ap, _∙_}
+use mathlib.Core.Bool.{Bool, true, _&&_}
+use mathlib.Core.List.{List}
 use native.Mathlib.Omega.{arith}
 use lib.Dec.{leb, ltb}
 use lib.ListN.{length}
-use borrow.Author.Tests.{leb-true, ltb-true, le-leb, lt-leb}
-use Rattle.ring.specs.Lists.{if_then_else_}
+use borrow.Author.Tests.{leb-true, ltb-true, lt-leb}
 use Rattle.ring.specs.Rings.{Head, Link}
 use Rattle.counts.specs.declared.Counts.{Counts}
-use Rattle.counts.specs.declared.Refusal.the-variants.{Operand}
 use Rattle.counts.specs.Counts.{total, isHead, isLink, isLinkage, both}
 use Rattle.model.specs.declared.answer.Answer.{Answer}
-use Rattle.model.specs.declared.answer.Answer.the-variants.{Done, Linkage, Number, Truth, Refused}
+use Rattle.model.specs.declared.answer.Answer.the-variants.{Done, Linkage, Number, Truth}
 use Rattle.model.specs.declared.judge.Verdict.{Verdict}
 use Rattle.model.specs.declared.judge.Verdict.the-variants.{Fine}
 use Rattle.model.specs.Tables.{Tables, Lists, After, Sized, setHead, membersOf, SpellsSets, Spells}
@@ -22,25 +20,7 @@ use Rattle.model.specs.Judge.{judged}
 use Rattle.model.specs.Verdict.{judged-says}
 use Rattle.model.specs.Answers.{called, asked, turning, telling}
 use Rattle.simset.specs.Sets.{outSets, followSets, precedeSets, clearSets, sucSets, predSets, noLinks}
-use Rattle.simset.specs.Calls.{
-  Linked,
-  moving,
-  telling as telling3,
-  orNone,
-  outStep,
-  followStep,
-  precedeStep,
-  intoStep,
-  clearStep,
-  firstTold,
-  lastTold,
-  sucTold,
-  predTold,
-  emptyTold,
-  cardinalTold,
-  onLinks,
-  ofLinks,
-}
+use Rattle.simset.specs.Calls.{moving, telling as telling3, orNone, outStep, followStep, precedeStep, intoStep, clearStep, firstTold, lastTold, sucTold, predTold, emptyTold, cardinalTold, onLinks, ofLinks}
 use Rattle.simset.specs.Promise.{link-in, linkage-in, head-in, none-or}
 use Rattle.simset.specs.Laws.{sets-out, sets-followed, sets-preceded}
 use Rattle.simset.specs.ClearLaw.{sets-cleared}

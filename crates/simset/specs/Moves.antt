@@ -1,14 +1,11 @@
 -- The procedures' clauses, from the tests and calls of the code that makes them.
-use Prim.Native.Nat.{ℕ, zero, suc, _+_, _-_, _<_, _≤_}
-use mathlib.Core.Path.{_≡_, refl, sym, ap, _∙_}
+use Prim.Native.Nat.{ℕ, zero, suc, _-_}
+use mathlib.Core.Path.{_≡_, refl}
 use mathlib.Core.Logic.{_≢_}
 use mathlib.Core.List.{List}
-use native.Mathlib.Omega.{arith}
-use lib.Dec.{eqb, leb}
 use lib.ListN.{getD}
 use borrow.Author.Tests.{eq-eqb, ne-eqb}
-use Rattle.ring.specs.Lists.{if_then_else_}
-use Rattle.ring.specs.Table.{Sound, Made, unlinked, linkedBehind, linkedBefore}
+use Rattle.ring.specs.Table.{unlinked, linkedBehind, linkedBefore}
 use Rattle.simset.specs.Procedures.{followOn, followed, precedeOn, preceded, clearing, cleared}
 
 -- ---- follow and precede, once x is out

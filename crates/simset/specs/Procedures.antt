@@ -1,7 +1,7 @@
 -- The published procedures of SIMSET as functions on the links' table, statement by statement; m is N + 1, and links are the places
 -- above H. Out is ring's `unlinked`.
 use Prim.Native.Nat.{ℕ, zero, suc, _+_}
-use mathlib.Core.Bool.{Bool, true, false}
+use mathlib.Core.Bool.{Bool}
 use mathlib.Core.List.{List}
 use lib.Dec.{eqb, leb}
 use lib.ListN.{getD}

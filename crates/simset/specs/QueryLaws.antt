@@ -1,17 +1,15 @@
 -- The queries tell what the lists say.
-use Prim.Native.Nat.{ℕ, zero, suc, _+_, _-_, _<_, _≤_}
+use Prim.Native.Nat.{ℕ, _+_, _-_, _<_, _≤_}
 use mathlib.Core.Path.{_≡_, refl, sym, ap, _∙_, subst}
 use mathlib.Core.Logic.{_≢_, _⊎_, inl, inr, ⊎-elim}
-use mathlib.Core.Bool.{Bool, true, false}
 use mathlib.Core.List.{List, [], _∷_, _++_}
 use native.Mathlib.Omega.{arith}
-use lib.Dec.{eqb, leb}
 use lib.ListN.{length, getD}
 use borrow.Author.Tests.{eq-eqb, ne-eqb, le-leb, lt-leb, leb-true, leb-false}
-use Rattle.ring.specs.Lists.{if_then_else_, In, decide}
+use Rattle.ring.specs.Lists.{In, decide}
 use Rattle.ring.specs.Distinct.{Dist}
-use Rattle.ring.specs.Chain.{Edge, Chain, prev-in, back}
-use Rattle.ring.specs.Rings.{Head, Link, Rings, kind, rings-dist, rings-apart, not-own, apart}
+use Rattle.ring.specs.Chain.{Chain, prev-in}
+use Rattle.ring.specs.Rings.{Head, Rings, kind, rings-dist, rings-apart, not-own, apart}
 use Rattle.ring.specs.Stores.{sucs, pres, suc-at}
 use Rattle.ring.specs.Spell.{spells-counted}
 use Rattle.model.specs.Tables.{setHead, membersOf, SpellsSets}

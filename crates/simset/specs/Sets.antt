@@ -1,9 +1,9 @@
 -- The set operations on plain lists, one list of links for each head: what the set calls mean.
-use Prim.Native.Nat.{ℕ, zero, suc, _+_, _-_}
+use Prim.Native.Nat.{ℕ, suc, _+_, _-_}
 use mathlib.Core.Bool.{Bool, true, false}
 use mathlib.Core.List.{List, [], _∷_, _++_, map}
 use lib.Dec.{eqb}
-use lib.ListN.{length, getD, set}
+use lib.ListN.{set}
 use Rattle.ring.specs.Lists.{if_then_else_, without, behind, ahead}
 use Rattle.ring.specs.Tabulate.{has}
 

@@ -1,12 +1,11 @@
 -- What a chain of calls makes.
-use Prim.Native.Nat.{ℕ, zero, suc, _+_, _-_, _<_, _≤_, max}
-use mathlib.Core.Path.{_≡_, refl, sym, ap, ap₂, _∙_, subst}
+use Prim.Native.Nat.{ℕ, _+_, _-_, _<_, _≤_}
+use mathlib.Core.Path.{_≡_, sym, ap, ap₂, _∙_}
 use mathlib.Core.Logic.{_≢_}
-use mathlib.Core.Bool.{Bool, true, false, not, _&&_, _||_}
+use mathlib.Core.Bool.{Bool, true, false}
 use mathlib.Core.List.{List}
-use native.Mathlib.Omega.{arith}
 use native.Mathlib.Numerals.{add-one}
-use lib.Dec.{eqb, leb, ltb}
+use lib.Dec.{eqb}
 use lib.ListN.{getD, set}
 use borrow.Author.Tests.{eq-eqb, ne-eqb, le-leb, lt-leb, lt-ltb, le-ltb}
 use Rattle.ring.specs.Table.{Sound, Made, unlinked, linkedBehind}
@@ -14,8 +13,8 @@ use Rattle.counts.specs.Counts.{limit}
 use Rattle.counts.specs.declared.Refusal.the-variants.{NoNotice, TimeLimit}
 use Rattle.model.specs.declared.answer.Answer.{Answer}
 use Rattle.model.specs.declared.answer.Answer.the-variants.{Done, Refused}
-use Rattle.simulation.specs.Procedures.{Sqs, Outcome, made, found, dropOn, putOn, heldAt, held, passivated, cancelled, finishedMarks, vain, dueAt, placeFor, scheduled, activated}
-use Rattle.simulation.specs.Promise.{sqs, Left, Answers, AnswersMarked, Place, Stored, Read, Lone, Vain, Beside, Due, capped, capped-fine, capped-over, capped-in, capped-out}
+use Rattle.simulation.specs.Procedures.{Sqs, made, found, dropOn, putOn, heldAt, held, passivated, cancelled, finishedMarks, dueAt, placeFor, scheduled, activated}
+use Rattle.simulation.specs.Promise.{sqs, Left, Answers, AnswersMarked, Place, Stored, Read, Lone, Vain, Beside, Due, capped, capped-in, capped-out}
 
 pub dropped-by : (m x y z : ℕ) (a a′ t t′ : List ℕ) → y ≡ x → Made m (unlinked m y a) a′ → z ≡ x → Stored z 0 t t′ → Left m (dropOn m x (sqs a t)) a′ t′
 unfolding dropOn

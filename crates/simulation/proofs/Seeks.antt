@@ -1,12 +1,12 @@
 -- The invariant of the walk from both ends: n steps made, it stands at f and b, and what is left finds what the whole finds.
-use Prim.Native.Nat.{ℕ, zero, suc, _+_, _-_, _<_, _≤_}
-use mathlib.Core.Path.{_≡_, refl, sym, ap, ap₂, _∙_}
+use Prim.Native.Nat.{ℕ, suc, _+_, _-_, _<_, _≤_}
+use mathlib.Core.Path.{_≡_, sym, ap, ap₂, _∙_}
 use mathlib.Core.Logic.{_≢_}
 use mathlib.Core.List.{List}
 use native.Mathlib.Omega.{arith}
 use lib.ListN.{getD}
 use Rattle.ring.specs.Table.{Sound}
-use Rattle.simulation.specs.Procedures.{Sqs, seekFrom, found}
+use Rattle.simulation.specs.Procedures.{seekFrom, found}
 use Rattle.simulation.specs.Promise.{sqs, Place, Read}
 use Rattle.simulation.specs.Seek.{seek-zero, seek-head, seek-back, seek-front, seek-on}
 

@@ -1,35 +1,34 @@
 -- The procedures on tables that spell lists do what the plain calls do to the lists, with the same refusals.
-use Prim.Native.Nat.{ℕ, zero, suc, _+_, _*_, _-_, _<_, _≤_, max}
+use Prim.Native.Nat.{ℕ, suc, _+_, _-_, _<_, _≤_}
 use mathlib.Core.Path.{_≡_, refl, sym, ap, _∙_, subst}
 use mathlib.Core.Logic.{_≢_, _⊎_, inl, inr, ⊎-elim}
-use mathlib.Core.Bool.{Bool, true, false, not, _&&_, _||_}
-use mathlib.Core.List.{List, [], _∷_, map}
+use mathlib.Core.Bool.{true, false, not}
+use mathlib.Core.List.{List, [], _∷_}
 use native.Mathlib.Omega.{arith}
 use lib.Dec.{leb, ltb, eqb}
-use lib.IntN.{ℤ, pos, negsuc, subℕ, _+ℤ_}
+use lib.IntN.{ℤ}
 use lib.ListN.{length, getD, set}
 use lib.Seq.{getD-take}
-use borrow.Author.Tests.{eq-eqb, ne-eqb, eqb-true, eqb-false, le-leb, lt-leb, lt-ltb, le-ltb, leb-true, leb-false, ltb-true}
+use borrow.Author.Tests.{eq-eqb, ne-eqb, lt-leb, lt-ltb, le-ltb, leb-true, ltb-true}
 use Rattle.ring.specs.Lists.{if_then_else_, In, decide, below, test}
-use Rattle.ring.specs.Tabulate.{listed, has, bit, listed-at}
+use Rattle.ring.specs.Tabulate.{listed, has, bit}
 use Rattle.counts.specs.declared.Counts.{Counts}
-use Rattle.counts.specs.declared.Refusal.{Refusal}
-use Rattle.counts.specs.declared.Refusal.the-variants.{NoNotice, TimeLimit}
+use Rattle.counts.specs.declared.Refusal.the-variants.{NoNotice}
 use Rattle.counts.specs.Counts.{limit, main, isHead, isProcess}
 use Rattle.model.specs.declared.answer.Answer.the-variants.{Done, Refused}
-use Rattle.model.specs.Notices.{Notice, whos, places, dueOf, From, InOrder, Within}
+use Rattle.model.specs.Notices.{Notice, whos, InOrder}
 use Rattle.model.specs.Tables.{Tables, Lists, Spells}
 use Rattle.simset.specs.Calls.{orNone}
 use Rattle.simset.specs.Sets.{precedeSets}
 use Rattle.simulation.specs.Choice.{clash, and-left, and-right}
-use Rattle.simulation.specs.NoticeOps.{behindAll, frontAll, before, after, dropped, hasNotice, rest, first}
-use Rattle.simulation.specs.Plain.{Result, refused, done, current, time, withSets, withNotices, withTerminated, need, above, leaving, upTo, hold, passivate, wait, cancel, finish}
-use Rattle.simulation.specs.NoticeLaws.{Ins, drop-in, drop-gone, drop-old, drop-none, drop-sorted, drop-from, drop-due, rest-drop, from-less}
+use Rattle.simulation.specs.NoticeOps.{behindAll, dropped, hasNotice, rest, first}
+use Rattle.simulation.specs.Plain.{Result, refused, done, current, withSets, withNotices, withTerminated, above, leaving, hold, passivate, wait, cancel, finish}
+use Rattle.simulation.specs.NoticeLaws.{drop-old, drop-none, rest-drop}
 use Rattle.simulation.specs.PutLaws.{last-ins, last-sorted}
 use Rattle.simulation.specs.Kept.{Kept, some-in, kept-ins, kept-drop, kept-rest}
-use Rattle.simulation.specs.Procedures.{Sqs, Outcome, made, turnedDown, firstOf, timeOf, sucOf, predOf, idleAt, lone, found, dropOn, putOn, ranked, heldAt, heldTo, held, passivated, cancelled, finishedMarks}
-use Rattle.simulation.specs.ByDue.{byDue, by-behind, by-front, listed-set}
-use Rattle.simulation.specs.Places.{half, SpellsTime, Process, Spot, head, chain, off-head, once, is-process, times-at, linked, idle-is, times-set, drop-spells, put-spells, found-spot, first-spot, after-spot, before-spot}
+use Rattle.simulation.specs.Procedures.{Sqs, Outcome, made, turnedDown, firstOf, timeOf, sucOf, idleAt, lone, found, dropOn, ranked, heldAt, heldTo, held, passivated, cancelled, finishedMarks}
+use Rattle.simulation.specs.ByDue.{byDue, by-behind, listed-set}
+use Rattle.simulation.specs.Places.{half, SpellsTime, Process, chain, off-head, once, is-process, times-at, linked, idle-is, times-set, drop-spells, put-spells, found-spot}
 
 -- ---- what a call leaves, and what the machine answers
 

@@ -1,37 +1,33 @@
 -- ACTIVATE on tables that spell lists does what activate and reactivate do to the lists, with the same refusals.
-use Prim.Native.Nat.{ℕ, zero, suc, _+_, _*_, _-_, _<_, _≤_, max}
+use Prim.Native.Nat.{ℕ, suc, _+_, _-_, _≤_, max}
 use mathlib.Core.Path.{_≡_, refl, sym, ap, _∙_, subst}
-use mathlib.Core.Logic.{_≢_, _⊎_, inl, inr, ⊎-elim}
+use mathlib.Core.Logic.{_≢_}
 use mathlib.Core.Bool.{Bool, true, false, not, _&&_, _||_}
-use mathlib.Core.List.{List, [], _∷_, map}
+use mathlib.Core.List.{List, [], _∷_}
 use native.Mathlib.Omega.{arith}
 use lib.Dec.{leb, ltb, eqb}
-use lib.IntN.{ℤ, pos, negsuc, subℕ, _+ℤ_}
-use lib.ListN.{length, getD, set}
-use lib.Seq.{getD-take}
-use borrow.Author.Tests.{eq-eqb, ne-eqb, eqb-true, eqb-false, le-leb, lt-leb, lt-ltb, le-ltb, leb-true, leb-false, ltb-true}
-use Rattle.ring.specs.Lists.{if_then_else_, In, decide, below, test}
-use Rattle.ring.specs.Tabulate.{listed, has, bit, listed-at}
+use lib.IntN.{ℤ, pos, negsuc, _+ℤ_}
+use lib.ListN.{getD}
+use borrow.Author.Tests.{eq-eqb, ne-eqb, eqb-true, eqb-false, le-leb, le-ltb, leb-true}
+use Rattle.ring.specs.Lists.{if_then_else_, In, decide, test}
+use Rattle.ring.specs.Tabulate.{has, bit, listed-at}
 use Rattle.counts.specs.declared.Counts.{Counts}
-use Rattle.counts.specs.declared.Refusal.{Refusal}
-use Rattle.counts.specs.declared.Refusal.the-variants.{NoNotice, TimeLimit}
-use Rattle.counts.specs.Counts.{limit, main, isHead, isProcess}
-use Rattle.model.specs.declared.answer.Answer.the-variants.{Done, Refused}
-use Rattle.model.specs.Notices.{Notice, whos, places, dueOf, From, InOrder, Within}
+use Rattle.counts.specs.Counts.{limit, isProcess}
+use Rattle.model.specs.Notices.{Notice, whos, dueOf, From, InOrder}
 use Rattle.model.specs.Tables.{Tables, Lists, Spells}
 use Rattle.simset.specs.Calls.{orNone}
-use Rattle.simset.specs.Sets.{precedeSets}
+use Rattle.model.specs.Reading.{due-none}
 use Rattle.simulation.specs.Choice.{clash, and-left, and-right}
-use Rattle.simulation.specs.NoticeOps.{behindAll, frontAll, before, after, dropped, hasNotice, rest, first}
-use Rattle.simulation.specs.Plain.{Result, refused, done, current, time, withNotices, need, above, leaving, upTo, isDelay, dueFor, placed, noEffect, timedNeed, timed}
-use Rattle.simulation.specs.NoticeLaws.{Ins, ins-new, drop-in, drop-gone, drop-old, drop-sorted, drop-from, drop-due}
+use Rattle.simulation.specs.NoticeOps.{frontAll, dropped, hasNotice}
+use Rattle.simulation.specs.Plain.{done, time, withNotices, above, leaving, dueFor, placed, noEffect, timedNeed, timed}
+use Rattle.simulation.specs.NoticeLaws.{ins-new, drop-in, drop-gone, drop-old, drop-sorted, drop-from, drop-due}
 use Rattle.simulation.specs.BesideLaws.{before-none, after-none}
 use Rattle.simulation.specs.Kept.{Kept, kept-ins, dropped-within, dropped-idle}
 use Rattle.simulation.specs.PlacedLaws.{placed-sorted, due-beside, not-ended}
-use Rattle.simulation.specs.Procedures.{Sqs, Outcome, made, turnedDown, firstOf, timeOf, sucOf, predOf, idleAt, found, dropOn, putOn, cancelled, vain, dueAt, placeFor, scheduled, activated}
-use Rattle.simulation.specs.ByDue.{byDue, by-behind, by-front, due-none}
+use Rattle.simulation.specs.Procedures.{Sqs, made, timeOf, idleAt, found, dropOn, cancelled, vain, dueAt, placeFor, scheduled, activated}
+use Rattle.simulation.specs.ByDue.{by-behind, by-front}
 use Rattle.simulation.specs.Places.{half, SpellsTime, Process, Spot, is-process, times-at, drop-spells, put-spells, found-spot, first-spot, after-spot, before-spot}
-use Rattle.simulation.specs.Agree.{sqsOf, withSqs, Agrees, its-time, its-kept, respell, st, time-is, Party, party, has-in, has-none, idle-has, drop-agrees}
+use Rattle.simulation.specs.Agree.{sqsOf, Agrees, its-time, its-kept, respell, st, time-is, Party, party, has-in, has-none, idle-has, drop-agrees}
 
 -- ---- numbers and tests
 
@@ -101,7 +97,7 @@ module _ (c : Counts) (M : Lists) (t : Tables) (sp : Spells c M t) (n : Notice) 
   pub due-of : (y : ℕ) → Party c y → getD (t .times) (y - c .heads) 0 ≡ dueOf y (M .notices)
   due-of y (Party.none q) =
       let z : y - c .heads ≡ 0 = omega arith in
-      rw (sp .times, z) (sym (due-none y (M .notices) (λ i. omega (arith, is-process c (M .notices) a spt y i))))
+      rw (sp .times, z) (sym (due-none (M .notices) y (λ i. omega (arith, is-process c (M .notices) a spt y i))))
   due-of y (Party.proc p) = times-at c (M .notices) a spt y p
 
   pub due-is : (k y : ℕ) (z : ℤ) → (5 ≤ k → Party c y) → dueAt k (y - c .heads) (above z) (timeOf m a) (a .times) ≡ dueFor k y z M

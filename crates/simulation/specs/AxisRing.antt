@@ -3,10 +3,9 @@ use Prim.Native.Nat.{ℕ, _-_, _<_}
 use mathlib.Core.Path.{_≡_, refl, ap}
 use mathlib.Core.List.{List, [], _∷_}
 use native.Mathlib.Omega.{arith}
-use lib.Dec.{eqb}
 use borrow.Author.Tests.{eq-eqb, ne-eqb, eqb-true}
 use mathlib.Core.Logic.{inl, inr}
-use Rattle.ring.specs.Lists.{if_then_else_, In, without, behind, decide}
+use Rattle.ring.specs.Lists.{In, without, behind, decide}
 use Rattle.ring.specs.Rings.{Head, Link}
 use Rattle.ring.specs.Table.{unlinked, linkedBehind}
 use Rattle.ring.specs.Stores.{sucs}

@@ -1,16 +1,14 @@
 -- Where a notice stands that is put right before or right after another.
-use Prim.Native.Nat.{ℕ, zero, suc, _+_, _≤_, _<_}
-use mathlib.Core.Path.{_≡_, refl, sym, ap, _∙_, subst}
+use Prim.Native.Nat.{ℕ}
+use mathlib.Core.Path.{_≡_, refl, sym, ap}
 use mathlib.Core.Logic.{_≢_, _⊎_, inl, inr, ⊎-elim}
-use mathlib.Core.Bool.{Bool, true, false}
 use mathlib.Core.List.{List, [], _∷_}
 use native.Mathlib.Omega.{arith}
-use lib.Dec.{leb, ltb, eqb}
-use borrow.Author.Tests.{eq-eqb, ne-eqb, le-leb, lt-leb, lt-ltb, le-ltb}
-use Rattle.ring.specs.Lists.{if_then_else_, In, decide, below}
+use borrow.Author.Tests.{eq-eqb, ne-eqb}
+use Rattle.ring.specs.Lists.{In, decide}
 use Rattle.ring.specs.Distinct.{Dist}
-use Rattle.model.specs.Notices.{Notice, whos, dueOf, From, InOrder}
-use Rattle.simulation.specs.NoticeOps.{behindAll, frontAll, before, after, dropped}
+use Rattle.model.specs.Notices.{Notice, whos, dueOf, InOrder}
+use Rattle.simulation.specs.NoticeOps.{before, after}
 use Rattle.simulation.specs.Orders.{Before, Next}
 use Rattle.simulation.specs.NoticeLaws.{Ins, ins-new, ins-from, from-less, from-due}
 

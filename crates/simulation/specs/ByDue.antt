@@ -1,26 +1,21 @@
 -- Notices and tables: insertion before the first notice due from w on, the listed times, and what Spells says of notices.
-use Prim.Native.Nat.{ℕ, zero, suc, _+_, _*_, _-_, _<_, _≤_}
-use mathlib.Core.Path.{_≡_, refl, sym, ap, _∙_, subst}
-use mathlib.Core.Logic.{_≢_, _⊎_, inl, inr, ⊎-elim}
-use mathlib.Core.Bool.{Bool, true, false}
-use mathlib.Core.List.{List, [], _∷_, map}
+use Prim.Native.Nat.{ℕ, zero, suc, _+_, _-_, _<_, _≤_}
+use mathlib.Core.Path.{_≡_, refl, sym, ap, _∙_}
+use mathlib.Core.Logic.{_≢_, inl, inr}
+use mathlib.Core.List.{List, [], _∷_}
 use native.Mathlib.Omega.{arith}
 use native.Mathlib.Nat.{not-suc-le-zero}
-use lib.Dec.{leb, ltb, eqb}
-use lib.ListN.{length, getD, set}
+use lib.Dec.{ltb}
+use lib.ListN.{set}
 use borrow.Author.Tests.{eq-eqb, ne-eqb, le-leb, lt-leb, lt-ltb, le-ltb}
-use Rattle.ring.specs.Lists.{In, decide, below}
-use Rattle.ring.specs.Lists.{behind, behind-head}
+use Rattle.ring.specs.Lists.{In, below, behind, behind-head, if_then_else_}
 use Rattle.ring.specs.Distinct.{Dist}
-use Rattle.ring.specs.Lists.{if_then_else_}
 use Rattle.ring.specs.Tabulate.{listed}
 use Rattle.counts.specs.declared.Counts.{Counts}
-use Rattle.model.specs.Notices.{Notice}
-use Rattle.simulation.specs.NoticeOps.{behindAll, frontAll, dropped, hasNotice}
-use Rattle.model.specs.Notices.{dueOf}
-use Rattle.model.specs.Notices.{whos, places}
+use Rattle.model.specs.Notices.{Notice, dueOf, whos, places}
+use Rattle.simulation.specs.NoticeOps.{behindAll, frontAll, dropped}
 use Rattle.simulation.specs.NoticeLaws.{Ins, drop-gone}
-use Rattle.model.specs.Reading.{Timed}
+use Rattle.model.specs.Reading.{due-none}
 
 -- ---- n before the first notice that is due from w on
 
@@ -91,34 +86,13 @@ listed-set f g (suc n) i (suc k) v l e h =
 
 -- ---- dueOf
 
-pub due-none : (x : ℕ) (ns : List Notice) → (In x (whos ns) → ⊥) → dueOf x ns ≡ 0
-due-none x [] f = refl
-due-none x (k ∷ ks) f = rw (ne-eqb (k .who) x (λ e. f (inl (sym e)))) (due-none x ks (λ i. f (inr i)))
-
 pub due-dropped : (x : ℕ) (ns : List Notice) → dueOf x (dropped x ns) ≡ 0
-due-dropped x ns = due-none x (dropped x ns) (λ i. drop-gone x ns x i refl)
-
-pub timed-by : (c : Counts) (times : List ℕ) (ns : List Notice) → Dist (whos ns)
-    → ((a : ℕ) → In a (whos ns) → getD times (a - c .heads) 0 ≡ dueOf a ns) → Timed c times ns
-timed-by c times [] d f = tt
-timed-by c times (k ∷ ks) d f = (
-  rw (eq-eqb (k .who) (k .who) refl) at (f (k .who) (inl refl)),
-  timed-by c times ks (d .1) (λ a i. rw (ne-eqb (k .who) a (λ e. d .0 (rw (← e) at i))) at (f a (inr i))),
-)
+due-dropped x ns = due-none (dropped x ns) x (λ i. drop-gone x ns x i refl)
 
 -- ---- places
-
-pub in-places : (c : Counts) (a : ℕ) (ns : List Notice) → In a (whos ns) → In (a - c .heads) (places c ns)
-in-places c a [] i = i
-in-places c a (k ∷ ks) (inl e) = inl (ap (λ (j : ℕ). j - c .heads) e)
-in-places c a (k ∷ ks) (inr i) = inr (in-places c a ks i)
 
 -- a place of the list is some notice's
 pub places-in : (c : Counts) (p : ℕ) (ns : List Notice) → In p (places c ns) → (a : ℕ) × (p ≡ a - c .heads) × In a (whos ns)
 places-in c p [] i = absurd i
 places-in c p (k ∷ ks) (inl e) = (k .who, e, inl refl)
 places-in c p (k ∷ ks) (inr i) = let r = places-in c p ks i in (r .0, r .1, inr (r .2))
-
-pub dist-whos : (c : Counts) (ns : List Notice) → Dist (places c ns) → Dist (whos ns)
-dist-whos c [] d = d
-dist-whos c (k ∷ ks) d = (λ i. d .0 (in-places c (k .who) ks i), dist-whos c ks (d .1))

@@ -1,16 +1,16 @@
 -- The sequencing calls on judged tables: refusal 3 by the operands, else the published procedure with its refusals 4, 5 and 6.
-use Prim.Native.Nat.{ℕ, suc, _+_, _-_}
-use mathlib.Core.Bool.{Bool, true, false, not, _&&_, _||_}
+use Prim.Native.Nat.{ℕ, _+_, _-_}
+use mathlib.Core.Bool.{Bool, true, false}
 use mathlib.Core.List.{List}
 use lib.Dec.{eqb, leb}
 use lib.IntN.{ℤ}
-use lib.ListN.{getD, set}
+use lib.ListN.{getD}
 use Rattle.ring.specs.Lists.{if_then_else_}
 use Rattle.counts.specs.declared.Counts.{Counts}
 use Rattle.counts.specs.declared.Refusal.the-variants.{Operand, NoNotice, Idle}
 use Rattle.counts.specs.Counts.{total, isHead, isProcess, placeOf, linkageAt}
 use Rattle.model.specs.declared.answer.Answer.{Answer}
-use Rattle.model.specs.declared.answer.Answer.the-variants.{Done, Linkage, Number, Truth, Refused}
+use Rattle.model.specs.declared.answer.Answer.the-variants.{Linkage, Number, Truth, Refused}
 use Rattle.model.specs.Tables.{Tables, After}
 use Rattle.simset.specs.Calls.{orNone}
 use Rattle.simset.specs.Procedures.{preceded}

@@ -1,6 +1,6 @@
 -- Tests on Bools.
 use mathlib.Core.Path.{_≡_, refl, sym}
-use mathlib.Core.Bool.{Bool, true, false, _&&_, _||_}
+use mathlib.Core.Bool.{Bool, true, false, _&&_}
 use Rattle.ring.specs.Lists as lists
 
 pub clash : {A : Type 0} → true ≡ false → A

@@ -1,13 +1,12 @@
 -- What notices must keep for a model to stay well formed: at least one, in order, within the limit, and none of a terminated process.
-use Prim.Native.Nat.{ℕ, zero, suc, _<_, _≤_}
-use mathlib.Core.Path.{_≡_, refl, sym, _∙_, subst}
-use mathlib.Core.Logic.{_≢_, _⊎_, inl, inr, ⊎-elim}
+use Prim.Native.Nat.{ℕ, _<_, _≤_}
+use mathlib.Core.Path.{subst}
+use mathlib.Core.Logic.{_⊎_, inr, ⊎-elim}
 use mathlib.Core.List.{List, [], _∷_}
 use native.Mathlib.Omega.{arith}
-use lib.Dec.{eqb}
 use lib.ListN.{length}
 use borrow.Author.Tests.{eq-eqb, ne-eqb}
-use Rattle.ring.specs.Lists.{if_then_else_, In, decide}
+use Rattle.ring.specs.Lists.{In, decide}
 use Rattle.counts.specs.Counts.{limit}
 use Rattle.model.specs.Notices.{Notice, whos, InOrder, Within}
 use Rattle.simulation.specs.NoticeOps.{dropped}

@@ -1,25 +1,25 @@
 -- What each sequencing call means, for every well-formed model: refused with the plain call's refusal and nothing changed, or done, and
 -- the tables spell the lists that the plain call leaves.
-use Prim.Native.Nat.{ℕ, zero, suc, _+_, _-_, _<_, _≤_}
-use mathlib.Core.Path.{_≡_, refl, sym, ap, _∙_, subst}
-use mathlib.Core.Logic.{_≢_, _⊎_, inl, inr}
+use Prim.Native.Nat.{ℕ, _+_, _-_, _<_}
+use mathlib.Core.Path.{_≡_, refl, sym, ap, subst}
+use mathlib.Core.Logic.{_≢_}
 use mathlib.Core.Bool.{Bool, true, false, not, _&&_, _||_}
 use mathlib.Core.List.{List, [], _∷_}
 use native.Mathlib.Omega.{arith}
 use native.Mathlib.Nat.{not-suc-le-zero}
-use lib.Dec.{eqb, leb, ltb}
+use lib.Dec.{eqb, leb}
 use lib.IntN.{ℤ}
-use lib.ListN.{length, getD}
-use borrow.Author.Tests.{eq-eqb, ne-eqb, eqb-true, eqb-false, le-leb, lt-leb, leb-true, leb-false, lt-ltb}
-use Rattle.ring.specs.Lists.{if_then_else_, In, decide, test}
+use lib.ListN.{length}
+use borrow.Author.Tests.{eq-eqb, ne-eqb, le-leb, lt-leb, leb-false, lt-ltb}
+use Rattle.ring.specs.Lists.{decide, test}
 use Rattle.ring.specs.Lists as lists
 use Rattle.counts.specs.declared.Counts.{Counts}
 use Rattle.counts.specs.declared.Refusal.the-variants.{Operand, NoNotice}
-use Rattle.counts.specs.Counts.{total, main, isHead, isProcess, isLink, placeOf}
+use Rattle.counts.specs.Counts.{total, main, isHead, isProcess, isLink}
 use Rattle.model.specs.declared.answer.Answer.{Answer}
 use Rattle.model.specs.declared.answer.Answer.the-variants.{Done, Refused}
-use Rattle.model.specs.Notices.{Notice, whos, dueOf}
-use Rattle.model.specs.Tables.{Tables, Lists, After, Sized, Spells, setHead}
+use Rattle.model.specs.Notices.{Notice}
+use Rattle.model.specs.Tables.{Tables, Lists, After, Sized, Spells}
 use Rattle.model.specs.Answers.{called}
 use Rattle.simset.specs.Calls.{orNone}
 use Rattle.simset.specs.Sets.{precedeSets}
@@ -27,12 +27,12 @@ use Rattle.simset.specs.Procedures.{preceded}
 use Rattle.simset.specs.Promise.{none-or, head-in}
 use Rattle.simset.specs.Laws.{sets-preceded}
 use Rattle.simset.specs.Meaning.{called-is, link-of}
-use Rattle.simulation.specs.NoticeOps.{rest, first}
-use Rattle.simulation.specs.Plain.{Result, refused, done, current, time, withSets, above, leaving, need, hold, passivate, wait, cancel, finish, dueFor, placed, noEffect, timedNeed, timed}
+use Rattle.simulation.specs.NoticeOps.{first}
+use Rattle.simulation.specs.Plain.{Result, refused, done, current, withSets, above, hold, passivate, wait, cancel, finish, dueFor, placed, noEffect, timedNeed, timed}
 use Rattle.simulation.specs.Procedures.{Sqs, Outcome, made, turnedDown, firstOf, lone, dropOn, passivated, activated}
-use Rattle.simulation.specs.Calls.{Marked, holdStep, passivateStep, cancelStep, timedStep, finishStep, waitStep, yPlace, onSqs, onMarks, onSets}
-use Rattle.simulation.specs.Places.{half, SpellsTime, Process, is-process}
-use Rattle.simulation.specs.Agree.{sqsOf, withSqs, withMarks, Agrees, AgreesMarked, its-time, st, first-is, process-first, hold-agrees, passivate-agrees, cancel-agrees, finish-agrees, lone-leaves, wait-agrees}
+use Rattle.simulation.specs.Calls.{Marked, holdStep, passivateStep, cancelStep, timedStep, finishStep, waitStep, onSqs, onMarks, onSets}
+use Rattle.simulation.specs.Places.{half, Process}
+use Rattle.simulation.specs.Agree.{sqsOf, withSqs, withMarks, Agrees, AgreesMarked, st, first-is, process-first, hold-agrees, passivate-agrees, cancel-agrees, finish-agrees, lone-leaves, wait-agrees}
 use Rattle.simulation.specs.AgreeTimed.{timed-agrees}
 
 -- the call does what the plain call does

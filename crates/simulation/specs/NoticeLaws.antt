@@ -1,17 +1,15 @@
 -- What taking out does to a list of notices, and what any insertion keeps.
-use Prim.Native.Nat.{ℕ, zero, suc, _+_, _≤_, _<_}
-use mathlib.Core.Path.{_≡_, refl, sym, ap, _∙_, subst}
+use Prim.Native.Nat.{ℕ, _≤_}
+use mathlib.Core.Path.{_≡_, refl, sym, ap, _∙_}
 use mathlib.Core.Logic.{_≢_, _⊎_, inl, inr, ⊎-elim}
-use mathlib.Core.Bool.{Bool, true, false}
 use mathlib.Core.List.{List, [], _∷_}
 use native.Mathlib.Omega.{arith}
-use lib.Dec.{leb, ltb, eqb}
-use borrow.Author.Tests.{eq-eqb, ne-eqb, le-leb, lt-leb, lt-ltb, le-ltb}
-use Rattle.ring.specs.Lists.{if_then_else_, In, decide, below}
+use borrow.Author.Tests.{eq-eqb, ne-eqb}
+use Rattle.ring.specs.Lists.{In, decide}
 use Rattle.ring.specs.Distinct.{Dist}
 use Rattle.model.specs.Notices.{Notice, whos, dueOf, From, InOrder}
-use Rattle.simulation.specs.NoticeOps.{behindAll, frontAll, before, after, dropped}
-use Rattle.simulation.specs.Orders.{Before, Next}
+use Rattle.simulation.specs.NoticeOps.{dropped}
+use Rattle.simulation.specs.Orders.{Before}
 
 -- ns′ is ns with n put in somewhere
 pub data Ins (n : Notice) : List Notice → List Notice → Type 0 where

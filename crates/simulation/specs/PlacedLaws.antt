@@ -1,14 +1,13 @@
 -- An effective activate or reactivate keeps the notices in order and places no terminated process.
-use Prim.Native.Nat.{ℕ, zero, suc, _+_, _≤_, _<_, max}
-use mathlib.Core.Path.{_≡_, refl, sym, ap, _∙_}
-use mathlib.Core.Logic.{_≢_}
-use mathlib.Core.Bool.{Bool, true, false, not, _&&_, _||_}
-use mathlib.Core.List.{List, [], _∷_}
+use Prim.Native.Nat.{ℕ, _≤_}
+use mathlib.Core.Path.{_≡_, refl, sym, _∙_}
+use mathlib.Core.Bool.{Bool, true, false, _||_}
+use mathlib.Core.List.{List}
 use native.Mathlib.Omega.{arith}
-use lib.Dec.{leb, eqb}
+use lib.Dec.{eqb}
 use lib.IntN.{ℤ}
 use borrow.Author.Tests.{ne-eqb, eqb-true, le-leb}
-use Rattle.ring.specs.Lists.{if_then_else_, In, test}
+use Rattle.ring.specs.Lists.{In, test}
 use Rattle.ring.specs.Tabulate.{has, in-has}
 use Rattle.model.specs.Notices.{Notice, whos, dueOf, InOrder}
 use Rattle.model.specs.Tables.{Lists}

@@ -1,43 +1,31 @@
 -- Tables that spell a list of notices, and what dropping a notice and linking one behind a place do to that list.
-use Prim.Native.Nat.{ℕ, zero, suc, _+_, _*_, _-_, _<_, _≤_}
-use mathlib.Core.Path.{_≡_, refl, sym, ap, _∙_, subst}
+use Prim.Native.Nat.{ℕ, suc, _+_, _-_, _<_, _≤_}
+use mathlib.Core.Path.{_≡_, refl, sym, ap, _∙_}
 use mathlib.Core.Logic.{_≢_, _⊎_, inl, inr, ⊎-elim}
-use mathlib.Core.Bool.{Bool, true, false}
-use mathlib.Core.List.{List, [], _∷_, map}
+use mathlib.Core.List.{List, [], _∷_}
 use native.Mathlib.Omega.{arith}
-use native.Mathlib.Nat.{not-suc-le-zero}
-use lib.Dec.{leb, ltb, eqb}
 use lib.ListN.{length, getD, set}
 use lib.Seq.{getD-take}
-use borrow.Author.Tests.{eq-eqb, ne-eqb, eqb-false, le-leb, lt-leb, lt-ltb, le-ltb}
-use Rattle.ring.specs.Table.{Sound, unlinked, linkedBehind}
-use Rattle.ring.specs.Lists.{In, decide, below}
-use Rattle.ring.specs.Chain.{Edge, Chain, prev-in}
-use Rattle.ring.specs.Lists.{behind, ahead, behind-head}
-use Rattle.ring.specs.Chain.{back, behind-ahead}
+use borrow.Author.Tests.{eq-eqb, ne-eqb, lt-ltb, le-ltb}
+use Rattle.ring.specs.Lists.{In, decide, below, behind, ahead, behind-head}
+use Rattle.ring.specs.Chain.{Chain, prev-in, back, behind-ahead}
 use Rattle.ring.specs.Distinct.{Dist}
-use Rattle.ring.specs.Rings.{Head, Link, Rings, apart, next-place}
+use Rattle.ring.specs.Rings.{Head, Link, apart, next-place}
 use Rattle.ring.specs.Stores.{sucs, pres}
-use Rattle.ring.specs.Spell.{spells-dist, spells-few, spells-sound}
+use Rattle.ring.specs.Spell.{spells-dist, spells-few}
 use Rattle.model.specs.Tables.{axisHead, SpellsAxis}
-use Rattle.simulation.specs.AxisRing.{axis-unlinked, axis-linked}
-use Rattle.ring.specs.Lists.{if_then_else_}
-use Rattle.ring.specs.Tabulate.{listed}
+use Rattle.simulation.specs.AxisRing.{axis-unlinked, axis-linked, axis-drop}
+use Rattle.ring.specs.Tabulate.{listed, listed-at}
 use Rattle.counts.specs.declared.Counts.{Counts}
-use Rattle.model.specs.Notices.{Notice}
-use Rattle.simulation.specs.NoticeOps.{behindAll, frontAll, before, after, dropped, hasNotice}
-use Rattle.model.specs.Notices.{dueOf}
-use Rattle.model.specs.Notices.{whos, places}
-use Rattle.ring.specs.Tabulate.{listed-at}
-use Rattle.model.specs.Notices.{From, InOrder}
+use Rattle.model.specs.Notices.{Notice, dueOf, whos, places, From, InOrder}
+use Rattle.simulation.specs.NoticeOps.{before, after, dropped}
 use Rattle.simulation.specs.NoticeLaws.{Ins, ins-due, ins-own, drop-due, from-less}
 use Rattle.simulation.specs.BesideLaws.{before-ins, after-ins}
-use Rattle.model.specs.Reading.{Timed}
-use Rattle.simulation.specs.AxisRing.{axis-drop}
-use Rattle.simulation.specs.Procedures.{Sqs, walk, firstOf, timeOf, sucOf, predOf, idleAt, lone, lastBelow, seekFrom, found, dropOn, putOn, ranked, rankedBefore}
+use Rattle.model.specs.Reading.{Timed, timed as timed-by, who-place, dist-whos}
+use Rattle.simulation.specs.Procedures.{Sqs, walk, predOf, lastBelow, seekFrom, found, dropOn, putOn}
 use Rattle.simulation.specs.WalkBack.{walk-head, walk-stop, walk-on}
 use Rattle.simulation.specs.Seek.{seek-finds}
-use Rattle.simulation.specs.ByDue.{byDue, by-behind, by-front, by-ins, spotIn, spot-on, behind-spot, listed-set, due-none, due-dropped, timed-by, in-places, places-in, dist-whos}
+use Rattle.simulation.specs.ByDue.{byDue, by-ins, spotIn, spot-on, behind-spot, listed-set, due-dropped, places-in}
 
 -- P + 2
 abbrev pub half : Counts → ℕ
@@ -107,8 +95,8 @@ module _ (c : Counts) (ns : List Notice) (a : Sqs) (sp : SpellsTime c ns a) wher
 
   pub is-process : (x : ℕ) → In x (whos ns) → Process c x
   is-process x i =
-      let l : Link m (axisHead m) (x - c .heads) = member (x - c .heads) (in-places c x ns i) in
-      let n : x - c .heads ≢ m - 1 = off-head (x - c .heads) (in-places c x ns i) in
+      let l : Link m (axisHead m) (x - c .heads) = member (x - c .heads) (who-place c ns x i) in
+      let n : x - c .heads ≢ m - 1 = off-head (x - c .heads) (who-place c ns x i) in
       record { over = omega (arith, l); upto = omega (arith, l) }
 
   pub a-link : (x : ℕ) → Process c x → Link m (axisHead m) (x - c .heads)
@@ -129,8 +117,8 @@ module _ (c : Counts) (ns : List Notice) (a : Sqs) (sp : SpellsTime c ns a) wher
   -- idle, or not
   pub linked : (x : ℕ) → In x (whos ns) → 0 < getD t (x - c .heads) 0
   linked x i =
-      let l : Link m (axisHead m) (x - c .heads) = member (x - c .heads) (in-places c x ns i) in
-      rw (getD-take m t (x - c .heads) 0 (l .within)) at (next-place m (axisHead m) (λ h. places c ns) (sucs m t) (pres m t) (sp .axis .rings) (m - 1) (x - c .heads) head (inr (in-places c x ns i)) .0)
+      let l : Link m (axisHead m) (x - c .heads) = member (x - c .heads) (who-place c ns x i) in
+      rw (getD-take m t (x - c .heads) 0 (l .within)) at (next-place m (axisHead m) (λ h. places c ns) (sucs m t) (pres m t) (sp .axis .rings) (m - 1) (x - c .heads) head (inr (who-place c ns x i)) .0)
 
   pub same-who : (x : ℕ) → Process c x → In (x - c .heads) (places c ns) → In x (whos ns)
   same-who x p i =
@@ -229,8 +217,8 @@ module _ (c : Counts) (ns : List Notice) (a : Sqs) (sp : SpellsTime c ns a) wher
   pub after-spot : (n : Notice) (y : ℕ) → In y (whos ns) → Spot c ns n (y - c .heads) (after y n ns)
   after-spot n y i =
       record {
-        on = inr (in-places c y ns i);
-        there = go (half c - 1) ns (off-head c ns a sp (y - c .heads) (in-places c y ns i)) (dist-all c ns a sp .1) (λ z j. is-process c ns a sp z j .over) (is-process c ns a sp y i .over);
+        on = inr (who-place c ns y i);
+        there = go (half c - 1) ns (off-head c ns a sp (y - c .heads) (who-place c ns y i)) (dist-all c ns a sp .1) (λ z j. is-process c ns a sp z j .over) (is-process c ns a sp y i .over);
         puts = after-ins y n ns i;
       }
     where
@@ -253,7 +241,7 @@ module _ (c : Counts) (ns : List Notice) (a : Sqs) (sp : SpellsTime c ns a) wher
       let q = y - c .heads in
       let S = sucs (half c) (a .axis) in
       let P = pres (half c) (a .axis) in
-      let on-y : In q (places c ns) = in-places c y ns i in
+      let on-y : In q (places c ns) = who-place c ns y i in
       record {
         on = prev-in S P (half c - 1) (places c ns) (half c - 1) q (chain c ns a sp) (inl on-y);
         there =

@@ -1,8 +1,8 @@
 -- The sequencing calls on plain lists: sets, notices and terminated processes. A refusal changes nothing.
-use Prim.Native.Nat.{ℕ, zero, suc, _+_, _-_, max}
+use Prim.Native.Nat.{ℕ, _+_, max}
 use mathlib.Core.Bool.{Bool, true, false, not, _&&_, _||_}
 use mathlib.Core.List.{List, [], _∷_}
-use lib.Dec.{leb, ltb, eqb}
+use lib.Dec.{leb, eqb}
 use lib.IntN.{ℤ, pos, negsuc, _+ℤ_}
 use Rattle.ring.specs.Lists.{if_then_else_}
 use Rattle.ring.specs.Tabulate.{has}

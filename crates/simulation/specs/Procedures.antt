@@ -1,12 +1,11 @@
 -- The published procedures of SIMULATION as functions on the axis, the times and the marks: m is P + 2, the axis's own head (SQS)
 -- stands at m - 1, and a process's notice at its place. d is T where that is above 0, else 0.
-use Prim.Native.Nat.{ℕ, zero, suc, _+_, _*_, _-_, _<_, _≤_, max}
-use mathlib.Core.Path.{_≡_}
-use mathlib.Core.Bool.{Bool, true, false, not, _&&_, _||_}
-use mathlib.Core.List.{List, [], _∷_}
+use Prim.Native.Nat.{ℕ, zero, suc, _+_, _-_, max}
+use mathlib.Core.Bool.{Bool, not, _&&_, _||_}
+use mathlib.Core.List.{List}
 use lib.Dec.{eqb, leb, ltb}
-use lib.ListN.{length, getD, set}
-use Rattle.ring.specs.Table.{Sound, unlinked, linkedBehind}
+use lib.ListN.{getD, set}
+use Rattle.ring.specs.Table.{unlinked, linkedBehind}
 use Rattle.ring.specs.Lists.{if_then_else_}
 use Rattle.counts.specs.declared.Refusal.{Refusal}
 use Rattle.counts.specs.declared.Refusal.the-variants.{NoNotice, TimeLimit}

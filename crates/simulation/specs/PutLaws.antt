@@ -1,17 +1,14 @@
 -- Where an inserted notice stands: behind all of its time, in front of all from its time on.
-use Prim.Native.Nat.{ℕ, zero, suc, _+_, _≤_, _<_}
-use mathlib.Core.Path.{_≡_, refl, sym, ap, _∙_, subst}
-use mathlib.Core.Logic.{_≢_, _⊎_, inl, inr, ⊎-elim}
-use mathlib.Core.Bool.{Bool, true, false}
+use Prim.Native.Nat.{ℕ, _≤_}
+use mathlib.Core.Path.{refl, sym}
+use mathlib.Core.Logic.{_⊎_, inl, inr, ⊎-elim}
 use mathlib.Core.List.{List, [], _∷_}
 use native.Mathlib.Omega.{arith}
-use lib.Dec.{leb, ltb, eqb}
 use borrow.Author.Tests.{eq-eqb, ne-eqb, le-leb, lt-leb, lt-ltb, le-ltb}
-use Rattle.ring.specs.Lists.{if_then_else_, In, decide, below}
-use Rattle.ring.specs.Distinct.{Dist}
-use Rattle.model.specs.Notices.{Notice, whos, dueOf, From, InOrder}
-use Rattle.simulation.specs.NoticeOps.{behindAll, frontAll, before, after, dropped}
-use Rattle.simulation.specs.Orders.{Before, Next}
+use Rattle.ring.specs.Lists.{In, decide, below}
+use Rattle.model.specs.Notices.{Notice, whos, dueOf, InOrder}
+use Rattle.simulation.specs.NoticeOps.{behindAll, frontAll}
+use Rattle.simulation.specs.Orders.{Before}
 use Rattle.simulation.specs.NoticeLaws.{Ins, ins-new, ins-from, from-less, from-due}
 
 -- ---- putting in

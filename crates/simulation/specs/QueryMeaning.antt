@@ -1,7 +1,7 @@
 -- What the queries of SIMULATION tell, for every well-formed model: what the list of notices and the terminated processes say.
-use Prim.Native.Nat.{ℕ, zero, suc, _+_, _-_, _<_, _≤_}
+use Prim.Native.Nat.{ℕ, _+_, _-_, _<_}
 use mathlib.Core.Path.{_≡_, refl, sym, ap, _∙_, subst}
-use mathlib.Core.Logic.{_≢_, _⊎_, inl, inr}
+use mathlib.Core.Logic.{_≢_, inl, inr}
 use mathlib.Core.Bool.{Bool, true, false, not}
 use mathlib.Core.List.{List, [], _∷_}
 use native.Mathlib.Omega.{arith}
@@ -11,11 +11,11 @@ use lib.Seq.{getD-take}
 use borrow.Author.Tests.{eq-eqb, ne-eqb, leb-true, ltb-true}
 use Rattle.ring.specs.Lists.{if_then_else_, In, decide, test}
 use Rattle.ring.specs.Tabulate.{has, bit}
-use Rattle.ring.specs.Chain.{Edge, Chain}
+use Rattle.ring.specs.Chain.{Chain}
 use Rattle.ring.specs.Stores.{sucs, pres}
 use Rattle.counts.specs.declared.Counts.{Counts}
-use Rattle.counts.specs.declared.Refusal.the-variants.{Operand, Idle}
-use Rattle.counts.specs.Counts.{isProcess, placeOf, linkageAt, both}
+use Rattle.counts.specs.declared.Refusal.the-variants.{Idle}
+use Rattle.counts.specs.Counts.{isProcess, linkageAt, both}
 use Rattle.model.specs.declared.answer.Answer.{Answer}
 use Rattle.model.specs.declared.answer.Answer.the-variants.{Linkage, Number, Truth, Refused}
 use Rattle.model.specs.Notices.{Notice, whos, places, dueOf}
@@ -24,9 +24,9 @@ use Rattle.model.specs.Answers.{asked}
 use Rattle.simset.specs.Meaning.{asked-is}
 use Rattle.simulation.specs.NoticeOps.{hasNotice, first}
 use Rattle.simulation.specs.Plain.{current, time}
-use Rattle.simulation.specs.Procedures.{Sqs, firstOf, timeOf, sucOf, idleAt}
+use Rattle.simulation.specs.Procedures.{Sqs, idleAt}
 use Rattle.simulation.specs.Calls.{telling, currentTold, timeTold, idleTold, terminatedTold, evtimeTold, nextevTold}
-use Rattle.simulation.specs.ByDue.{in-places}
+use Rattle.model.specs.Reading.{who-place}
 use Rattle.simulation.specs.Places.{half, SpellsTime, Process, chain, off-head, is-process, times-at, member}
 use Rattle.simulation.specs.Agree.{sqsOf, its-time, st, first-is, process-first, time-is, Party, has-in, idle-has}
 use Rattle.simulation.specs.AgreeTimed.{marks-at}
@@ -143,7 +143,7 @@ module _ (c : Counts) (l : Lists) (t : Tables) (w : Sized c t) (s : Spells c l t
         (λ h.
         let i : In x (whos (l .notices)) = has-in x (l .notices) h in
         let at : sucs (half c) (t .axis) (x - c .heads) ≡ getD (t .axis) (x - c .heads) 0 =
-        getD-take (half c) (t .axis) (x - c .heads) 0 (member c (l .notices) a spt (x - c .heads) (in-places c x (l .notices) i) .within) in
+        getD-take (half c) (t .axis) (x - c .heads) 0 (member c (l .notices) a spt (x - c .heads) (who-place c (l .notices) x i) .within) in
         rw (idle-is, h)
         (subst (λ (v : ℕ). (if eqb v (half c - 1) then Linkage 0 else Linkage (linkageAt c v)) ≡ Linkage (nextOf x (l .notices))) at
         (next-chain (sucs (half c) (t .axis)) (pres (half c) (t .axis)) c (half c - 1) (l .notices) (half c - 1) x (chain c (l .notices) a spt)

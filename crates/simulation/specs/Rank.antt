@@ -1,21 +1,18 @@
 -- RANK, statement by statement, and that the search from both ends finds its place.
-use Prim.Native.Nat.{ℕ, zero, suc, _+_, _*_, _-_, _<_, _≤_}
-use mathlib.Core.Path.{_≡_, refl, sym, ap, _∙_, subst}
-use mathlib.Core.Logic.{_≢_, _⊎_, inl, inr}
+use Prim.Native.Nat.{ℕ, zero, suc, _+_, _-_, _≤_}
+use mathlib.Core.Path.{_≡_, refl, sym, ap, _∙_}
+use mathlib.Core.Logic.{_≢_, inl, inr}
 use mathlib.Core.Bool.{Bool, true, false}
 use mathlib.Core.List.{List, [], _∷_}
 use native.Mathlib.Omega.{arith}
-use lib.Dec.{eqb, ltb}
+use lib.Dec.{eqb}
 use lib.ListN.{length, getD}
 use borrow.Author.Tests.{eq-eqb, ne-eqb, lt-ltb, le-ltb}
-use Rattle.ring.specs.Lists.{In, decide, below}
-use Rattle.ring.specs.Chain.{Edge, Chain}
+use Rattle.ring.specs.Lists.{In, decide, below, if_then_else_}
+use Rattle.ring.specs.Chain.{Chain}
 use Rattle.ring.specs.Stores.{sucs, pres}
-use Rattle.ring.specs.Lists.{if_then_else_}
 use Rattle.counts.specs.declared.Counts.{Counts}
-use Rattle.model.specs.Notices.{Notice}
-use Rattle.model.specs.Notices.{places}
-use Rattle.model.specs.Notices.{From, InOrder}
+use Rattle.model.specs.Notices.{Notice, places, From, InOrder}
 use Rattle.simulation.specs.NoticeLaws.{from-less}
 use Rattle.model.specs.Reading.{Timed}
 use Rattle.simulation.specs.Procedures.{Sqs, lastBelow, found}

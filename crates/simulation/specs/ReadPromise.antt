@@ -1,6 +1,6 @@
 -- What the queries' code answers, and calls seen on the whole model.
-use Prim.Native.Nat.{ℕ, suc, _+_, _-_, _<_, _≤_}
-use mathlib.Core.Path.{_≡_, refl, sym, ap, ap₂, _∙_, subst}
+use Prim.Native.Nat.{ℕ, _+_, _-_, _<_}
+use mathlib.Core.Path.{_≡_, refl, ap, _∙_, subst}
 use mathlib.Core.Logic.{_≢_}
 use mathlib.Core.Bool.{Bool, true, false, _||_}
 use mathlib.Core.List.{List}
@@ -12,17 +12,13 @@ use lib.IntN.{ℤ}
 use mir.Syntax.{w64}
 use mir.Val.{SFits, toZ, ofZ}
 use mir.ValLaws.{toZ-ofZ}
-use Rattle.ring.specs.Lists.{if_then_else_}
-use Rattle.ring.specs.Table.{Sound}
 use Rattle.counts.specs.declared.Counts.{Counts}
 use Rattle.counts.specs.declared.Refusal.the-variants.{Operand, Idle}
 use Rattle.counts.specs.Counts.{isProcess, placeOf, linkageAt}
 use Rattle.model.specs.declared.answer.Answer.{Answer}
-use Rattle.model.specs.declared.answer.Answer.the-variants.{Linkage, Number, Truth, Refused}
-use Rattle.model.specs.Tables.{Tables}
-use Rattle.simset.specs.Calls.{orNone}
+use Rattle.model.specs.declared.answer.Answer.the-variants.{Linkage, Number, Refused}
 use Rattle.simulation.specs.Procedures.{Sqs, Outcome}
-use Rattle.simulation.specs.Calls.{half, telling, Marked, Waited, onSqs, onMarks, onSets, currentTold, timeTold, idleTold, terminatedTold, evtimeTold, nextevTold}
+use Rattle.simulation.specs.Calls.{half, telling, Marked, Waited, onSqs, onMarks, onSets, currentTold, timeTold, evtimeTold, nextevTold}
 use Rattle.simulation.specs.Promise.{sqs, Answers, Place, Read}
 use Rattle.simulation.specs.StepPromise.{FinishMade, WaitMade, process-in}
 

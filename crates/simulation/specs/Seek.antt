@@ -1,21 +1,17 @@
 -- The walk from both ends: its clauses, and that it finds the place.
-use Prim.Native.Nat.{ℕ, zero, suc, _+_, _*_, _-_, _<_, _≤_}
-use mathlib.Core.Path.{_≡_, refl, sym, ap, ap₂, _∙_, subst}
+use Prim.Native.Nat.{ℕ, zero, suc, _+_, _-_, _<_, _≤_}
+use mathlib.Core.Path.{_≡_, refl, sym, ap, _∙_, subst}
 use mathlib.Core.Logic.{_≢_, _⊎_, inl, inr, ⊎-elim}
 use mathlib.Core.List.{List, [], _∷_, _++_}
 use native.Mathlib.Omega.{arith}
 use lib.ListN.{length, getD, length-append}
 use lib.Seq.{getD-take}
 use borrow.Author.Tests.{eq-eqb, ne-eqb, lt-ltb, le-ltb, le-leb, lt-leb}
-use Rattle.ring.specs.Table.{Sound}
 use Rattle.ring.specs.Lists.{In, decide, below}
 use Rattle.ring.specs.Chain.{Edge, Chain}
 use Rattle.ring.specs.Stores.{sucs, pres}
-use Rattle.ring.specs.Lists.{if_then_else_}
 use Rattle.counts.specs.declared.Counts.{Counts}
-use Rattle.model.specs.Notices.{Notice}
-use Rattle.model.specs.Notices.{places}
-use Rattle.model.specs.Notices.{From, InOrder}
+use Rattle.model.specs.Notices.{Notice, places, From, InOrder}
 use Rattle.model.specs.Reading.{Timed}
 use Rattle.simulation.specs.Procedures.{seekFrom}
 use Rattle.simulation.specs.ByDue.{spotIn}

@@ -1,6 +1,6 @@
 -- The twelve named situations of document 01, by one computed check over a list of them: on plain lists, and on tables by the
 -- published procedures, from the fresh model on.
-use Prim.Native.Nat.{ℕ, zero, suc, _+_, _-_}
+use Prim.Native.Nat.{ℕ, zero, suc, _+_}
 use mathlib.Core.Path.{_≡_, refl}
 use mathlib.Core.Bool.{Bool, true, false, not, _&&_}
 use mathlib.Core.List.{List, [], _∷_}
@@ -12,7 +12,6 @@ use Rattle.ring.specs.Distinct.{joined}
 use Rattle.ring.specs.Tabulate.{has}
 use Rattle.ring.specs.Table.{unlinked, linkedBehind, linkedBefore, selfLinked}
 use Rattle.counts.specs.declared.Counts.{Counts}
-use Rattle.counts.specs.declared.Refusal.{Refusal}
 use Rattle.counts.specs.Refusals.{refusalNumber}
 use Rattle.model.specs.declared.answer.Answer.{Answer}
 use Rattle.model.specs.declared.answer.Answer.the-variants.{Done, Linkage, Number, Truth, Refused}
@@ -23,7 +22,7 @@ use Rattle.simset.specs.Sets.{followSets, precedeSets}
 use Rattle.simset.specs.Procedures.{followOn, followed, precedeOn, preceded}
 use Rattle.simset.specs.Calls.{followStep, intoStep, onLinks}
 use Rattle.simulation.specs.Plain.{Result, refused, done, withSets, hold, dueFor, placed, noEffect, timed}
-use Rattle.simulation.specs.Procedures.{Sqs, seekFrom, found, dropOn, putOn, heldAt, held, passivated, cancelled, vain, dueAt, placeFor, scheduled, activated}
+use Rattle.simulation.specs.Procedures.{seekFrom, found, dropOn, putOn, heldAt, held, passivated, cancelled, vain, dueAt, placeFor, scheduled, activated}
 use Rattle.simulation.specs.Calls.{holdStep, timedStep, onSqs}
 
 -- ---- a model with one head, S, and four processes: M is main; A, B, C are processes

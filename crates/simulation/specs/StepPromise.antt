@@ -1,27 +1,26 @@
 -- What the calls' code answers, from its tests and calls.
-use Prim.Native.Nat.{ℕ, suc, _+_, _-_, _<_, _≤_}
-use mathlib.Core.Path.{_≡_, refl, sym, ap, ap₂, _∙_, subst}
+use Prim.Native.Nat.{ℕ, _+_, _-_, _<_, _≤_}
+use mathlib.Core.Path.{_≡_, sym, ap, ap₂, _∙_}
 use mathlib.Core.Logic.{_≢_}
 use mathlib.Core.Bool.{Bool, true, false, not, _&&_, _||_}
 use mathlib.Core.List.{List}
 use native.Mathlib.Omega.{arith}
-use lib.Dec.{eqb, leb, ltb}
-use lib.IntN.{ℤ}
+use lib.Dec.{leb, ltb}
 use lib.ListN.{getD}
-use borrow.Author.Tests.{eq-eqb, ne-eqb, le-leb, lt-leb, leb-true, ltb-true, not-true, not-false}
+use borrow.Author.Tests.{eq-eqb, ne-eqb, le-leb, lt-leb, leb-true, not-true, not-false}
 use Rattle.ring.specs.Lists.{if_then_else_, test, clash}
 use Rattle.ring.specs.Table.{Sound, Made}
 use Rattle.counts.specs.declared.Counts.{Counts}
 use Rattle.counts.specs.declared.Refusal.the-variants.{Operand, NoNotice}
-use Rattle.counts.specs.Counts.{total, isHead, isProcess, placeOf, linkageAt, both}
+use Rattle.counts.specs.Counts.{total, isHead, isProcess, placeOf, both}
 use Rattle.model.specs.declared.answer.Answer.{Answer}
 use Rattle.model.specs.declared.answer.Answer.the-variants.{Done, Refused}
 use Rattle.simset.specs.Calls.{orNone}
 use Rattle.simset.specs.Procedures.{preceded}
 use Rattle.simset.specs.Promise.{none-or}
-use Rattle.simulation.specs.Plain.{above, timedNeed}
-use Rattle.simulation.specs.Procedures.{Sqs, Outcome, made, turnedDown, firstOf, lone, dropOn, held, passivated, cancelled, finishedMarks, activated}
-use Rattle.simulation.specs.Calls.{half, yPlace, Marked, Waited, holdStep, passivateStep, cancelStep, timedStep, finishStep, waitStep}
+use Rattle.simulation.specs.Plain.{timedNeed}
+use Rattle.simulation.specs.Procedures.{Sqs, Outcome, made, turnedDown, dropOn, passivated, finishedMarks}
+use Rattle.simulation.specs.Calls.{half, yPlace, Marked, Waited, finishStep, waitStep}
 use Rattle.simulation.specs.Promise.{sqs, Left, Answers, AnswersMarked, Place, Lone, Judged}
 
 pub record FinishMade (c : Counts) (want : Marked) (axis times marks : List ℕ) (r : Answer) : Type 0 where

@@ -1,19 +1,17 @@
 -- The order of ties, for one call: where the placed notice stands to every other of equal time, and that the others keep their order.
-use Prim.Native.Nat.{ℕ, zero, suc, _≤_, _<_}
-use mathlib.Core.Path.{_≡_, refl, sym, ap, _∙_, subst}
-use mathlib.Core.Logic.{_≢_, _⊎_, inl, inr, ⊎-elim}
-use mathlib.Core.Bool.{Bool, true, false, _||_}
-use mathlib.Core.List.{List, [], _∷_}
+use Prim.Native.Nat.{ℕ, _≤_, _<_}
+use mathlib.Core.Path.{_≡_}
+use mathlib.Core.Logic.{_≢_, _⊎_, inl, inr}
+use mathlib.Core.List.{List}
 use native.Mathlib.Omega.{arith}
-use lib.Dec.{eqb}
-use borrow.Author.Tests.{eq-eqb, ne-eqb}
-use Rattle.ring.specs.Lists.{if_then_else_, In, decide}
+use borrow.Author.Tests.{ne-eqb}
+use Rattle.ring.specs.Lists.{In, decide}
 use Rattle.ring.specs.Distinct.{Dist}
-use Rattle.model.specs.Notices.{Notice, whos, dueOf, From, InOrder}
-use Rattle.simulation.specs.NoticeOps.{behindAll, frontAll, before, after, dropped, rest}
+use Rattle.model.specs.Notices.{Notice, whos, dueOf, InOrder}
+use Rattle.simulation.specs.NoticeOps.{behindAll, frontAll, before, after, dropped}
 use Rattle.simulation.specs.Orders.{Before, Next}
 use Rattle.simulation.specs.Plain.{placed}
-use Rattle.simulation.specs.NoticeLaws.{Ins, ins-back, drop-old, drop-dist, drop-sorted, drop-back, drop-due, drop-gone}
+use Rattle.simulation.specs.NoticeLaws.{Ins, ins-back, drop-old, drop-dist, drop-sorted, drop-back, drop-due}
 use Rattle.simulation.specs.PutLaws.{last-ins, front-ins, last-stands, front-stands}
 use Rattle.simulation.specs.BesideLaws.{before-ins, after-ins, before-next, after-next, before-pre, after-pre, before-post, after-post}
 

@@ -1,0 +1,2 @@
+-- steps that the walks by hand share
+pub mod Walking

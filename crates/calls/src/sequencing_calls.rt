@@ -1,0 +1,83 @@
+// Calls 6 to 11 and 32 and queries 25 to 30: the sequencing of SIMULATION.
+use crate::answer::Reply;
+use crate::answer::answered;
+use crate::head::Head;
+use model::answer::Answer;
+use simulation::calls;
+use simulation::queries;
+
+fn is_call(call: u32) -> bool {
+    if call == 32 {
+        return true;
+    }
+    if call < 6 {
+        return false;
+    }
+    call < 12
+}
+
+fn is_query(call: u32) -> bool {
+    if call < 25 {
+        return false;
+    }
+    call < 31
+}
+
+pub fn has(call: u32) -> bool {
+    if is_call(call) {
+        return true;
+    }
+    is_query(call)
+}
+
+fn call_of(
+    head: Head,
+    links: &mut [u32],
+    axis: &mut [u32],
+    times: &mut [u64],
+    marks: &mut [u8],
+) -> Answer {
+    let call = head.call;
+    let c = head.counts;
+    let clause = head.clause;
+    let x = head.x;
+    let y = head.y;
+    let t = head.t;
+    match call {
+        6 => calls::hold(c, links, axis, times, marks, t),
+        7 => calls::passivate(c, links, axis, times, marks),
+        8 => calls::wait(c, links, axis, times, marks, y),
+        9 => calls::cancel(c, links, axis, times, marks, x),
+        10 => calls::activate(c, links, axis, times, marks, clause, x, y, t),
+        11 => calls::reactivate(c, links, axis, times, marks, clause, x, y, t),
+        _ => calls::finish(c, links, axis, times, marks),
+    }
+}
+
+fn query_of(head: Head, links: &[u32], axis: &[u32], times: &[u64], marks: &[u8]) -> Answer {
+    let call = head.call;
+    let c = head.counts;
+    let x = head.x;
+    match call {
+        25 => queries::current(c, links, axis, times, marks),
+        26 => queries::time(c, links, axis, times, marks),
+        27 => queries::idle(c, links, axis, times, marks, x),
+        28 => queries::terminated(c, links, axis, times, marks, x),
+        29 => queries::evtime(c, links, axis, times, marks, x),
+        _ => queries::nextev(c, links, axis, times, marks, x),
+    }
+}
+
+pub fn answer(
+    head: Head,
+    links: &mut [u32],
+    axis: &mut [u32],
+    times: &mut [u64],
+    marks: &mut [u8],
+) -> Reply {
+    let call = head.call;
+    if is_call(call) {
+        return answered(call_of(head, links, axis, times, marks));
+    }
+    answered(query_of(head, links, axis, times, marks))
+}
