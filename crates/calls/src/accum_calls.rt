@@ -7,7 +7,7 @@ use accumulator::calls;
 use counts::Refusal;
 use model::answer::Answer;
 
-pub fn has(call: u32) -> bool {
+pub(crate) fn has(call: u32) -> bool {
     if call == 13 {
         return true;
     }
@@ -45,7 +45,7 @@ fn first_alone(
     told
 }
 
-pub fn answer(
+pub(crate) fn answer(
     head: Head,
     links: &[u32],
     axis: &[u32],

@@ -13,7 +13,7 @@ pub struct Reply {
     pub answer: u64,
 }
 
-pub fn accepted(answer: u64) -> Reply {
+pub(crate) fn accepted(answer: u64) -> Reply {
     Reply {
         code: 0,
         lines: 0,
@@ -21,7 +21,7 @@ pub fn accepted(answer: u64) -> Reply {
     }
 }
 
-pub fn refused(r: Refusal) -> Reply {
+pub(crate) fn refused(r: Refusal) -> Reply {
     Reply {
         code: r.number(),
         lines: 0,
@@ -29,7 +29,7 @@ pub fn refused(r: Refusal) -> Reply {
     }
 }
 
-pub fn answered(a: Answer) -> Reply {
+pub(crate) fn answered(a: Answer) -> Reply {
     Reply {
         code: a.code(),
         lines: 0,
@@ -38,7 +38,7 @@ pub fn answered(a: Answer) -> Reply {
 }
 
 // Is there such a call?
-pub fn known(call: u32) -> bool {
+pub(crate) fn known(call: u32) -> bool {
     if set_calls::has(call) {
         return true;
     }
@@ -52,7 +52,7 @@ pub fn known(call: u32) -> bool {
 }
 
 // Makes a known call on the tables of its request: a test for each group, and the last one takes what is left.
-pub fn answer(
+pub(crate) fn answer(
     head: Head,
     links: &mut [u32],
     axis: &mut [u32],

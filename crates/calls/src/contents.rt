@@ -18,7 +18,7 @@ ghost use lib.ListN.{length};
 ghost use Rattle.calls.specs.Contents.{modelBytes, runBytes, ModelFits, RunFits};
 
 // The four tables, from the place `at`; answers the place behind them.
-pub fn model_in(
+pub(crate) fn model_in(
     n: Sizes,
     s: &[u8],
     at: usize,
@@ -38,7 +38,7 @@ pub fn model_in(
 }
 
 // Accumulators, positions and trace; answers the place of the sheet, which stays where it lies.
-pub fn run_in(
+pub(crate) fn run_in(
     n: Sizes,
     s: &[u8],
     at: usize,
@@ -57,7 +57,7 @@ pub fn run_in(
 }
 
 // A response's first 16 bytes.
-pub fn reply_out(r: Reply, s: &mut [u8], at: usize) -> usize
+pub(crate) fn reply_out(r: Reply, s: &mut [u8], at: usize) -> usize
     requires { ⌜ at + 16 ≤ length (now s) ⌝ }
     ensures { λ r. ⌜ r ≡ at + 16 ⌝ }
 {
@@ -67,7 +67,7 @@ pub fn reply_out(r: Reply, s: &mut [u8], at: usize) -> usize
     at + 16
 }
 
-pub fn model_out(
+pub(crate) fn model_out(
     n: Sizes,
     s: &mut [u8],
     at: usize,
@@ -87,7 +87,7 @@ pub fn model_out(
 }
 
 // Without the sheet.
-pub fn run_out(
+pub(crate) fn run_out(
     n: Sizes,
     s: &mut [u8],
     at: usize,

@@ -9,7 +9,7 @@ ghost use Prim.Native.Nat.{_+_, _*_, _≤_};
 ghost use mathlib.Core.Path.{_≡_};
 ghost use lib.ListN.{length};
 
-pub fn words_in(s: &[u8], at: usize, t: &mut [u32], n: usize) -> usize
+pub(crate) fn words_in(s: &[u8], at: usize, t: &mut [u32], n: usize) -> usize
     requires { ⌜ (at + 4 * n ≤ length (now s)) × (n ≤ length (now t)) ⌝ }
     ensures { λ r. ⌜ r ≡ at + 4 * n ⌝ }
 {
@@ -21,7 +21,7 @@ pub fn words_in(s: &[u8], at: usize, t: &mut [u32], n: usize) -> usize
     at + 4 * n
 }
 
-pub fn longs_in(s: &[u8], at: usize, t: &mut [u64], n: usize) -> usize
+pub(crate) fn longs_in(s: &[u8], at: usize, t: &mut [u64], n: usize) -> usize
     requires { ⌜ (at + 8 * n ≤ length (now s)) × (n ≤ length (now t)) ⌝ }
     ensures { λ r. ⌜ r ≡ at + 8 * n ⌝ }
 {
@@ -33,7 +33,7 @@ pub fn longs_in(s: &[u8], at: usize, t: &mut [u64], n: usize) -> usize
     at + 8 * n
 }
 
-pub fn signed_in(s: &[u8], at: usize, t: &mut [i64], n: usize) -> usize
+pub(crate) fn signed_in(s: &[u8], at: usize, t: &mut [i64], n: usize) -> usize
     requires { ⌜ (at + 8 * n ≤ length (now s)) × (n ≤ length (now t)) ⌝ }
     ensures { λ r. ⌜ r ≡ at + 8 * n ⌝ }
 {
@@ -46,7 +46,7 @@ pub fn signed_in(s: &[u8], at: usize, t: &mut [i64], n: usize) -> usize
     at + 8 * n
 }
 
-pub fn bytes_in(s: &[u8], at: usize, t: &mut [u8], n: usize) -> usize
+pub(crate) fn bytes_in(s: &[u8], at: usize, t: &mut [u8], n: usize) -> usize
     requires { ⌜ (at + n ≤ length (now s)) × (n ≤ length (now t)) ⌝ }
     ensures { λ r. ⌜ r ≡ at + n ⌝ }
 {
@@ -58,7 +58,7 @@ pub fn bytes_in(s: &[u8], at: usize, t: &mut [u8], n: usize) -> usize
     at + n
 }
 
-pub fn words_out(s: &mut [u8], at: usize, t: &[u32], n: usize) -> usize
+pub(crate) fn words_out(s: &mut [u8], at: usize, t: &[u32], n: usize) -> usize
     requires { ⌜ (at + 4 * n ≤ length (now s)) × (n ≤ length (now t)) ⌝ }
     ensures { λ r. ⌜ r ≡ at + 4 * n ⌝ }
 {
@@ -70,7 +70,7 @@ pub fn words_out(s: &mut [u8], at: usize, t: &[u32], n: usize) -> usize
     at + 4 * n
 }
 
-pub fn longs_out(s: &mut [u8], at: usize, t: &[u64], n: usize) -> usize
+pub(crate) fn longs_out(s: &mut [u8], at: usize, t: &[u64], n: usize) -> usize
     requires { ⌜ (at + 8 * n ≤ length (now s)) × (n ≤ length (now t)) ⌝ }
     ensures { λ r. ⌜ r ≡ at + 8 * n ⌝ }
 {
@@ -82,7 +82,7 @@ pub fn longs_out(s: &mut [u8], at: usize, t: &[u64], n: usize) -> usize
     at + 8 * n
 }
 
-pub fn signed_out(s: &mut [u8], at: usize, t: &[i64], n: usize) -> usize
+pub(crate) fn signed_out(s: &mut [u8], at: usize, t: &[i64], n: usize) -> usize
     requires { ⌜ (at + 8 * n ≤ length (now s)) × (n ≤ length (now t)) ⌝ }
     ensures { λ r. ⌜ r ≡ at + 8 * n ⌝ }
 {
@@ -94,7 +94,7 @@ pub fn signed_out(s: &mut [u8], at: usize, t: &[i64], n: usize) -> usize
     at + 8 * n
 }
 
-pub fn bytes_out(s: &mut [u8], at: usize, t: &[u8], n: usize) -> usize
+pub(crate) fn bytes_out(s: &mut [u8], at: usize, t: &[u8], n: usize) -> usize
     requires { ⌜ (at + n ≤ length (now s)) × (n ≤ length (now t)) ⌝ }
     ensures { λ r. ⌜ r ≡ at + n ⌝ }
 {

@@ -14,7 +14,7 @@ pub struct Flow {
 }
 
 // Nothing read, nothing to write.
-pub fn started() -> Flow
+pub(crate) fn started() -> Flow
     ensures { λ r. ⌜ (r .at ≡ 0) × (r .end ≡ 0) × (r .out ≡ 0) ⌝ }
 {
     Flow {
@@ -26,7 +26,7 @@ pub fn started() -> Flow
 }
 
 // The program is to end.
-pub fn stopped(flow: Flow) -> Flow
+pub(crate) fn stopped(flow: Flow) -> Flow
     ensures { λ r. ⌜ (r .at ≡ flow .at) × (r .end ≡ flow .end) × (r .out ≡ flow .out) ⌝ }
 {
     Flow {
@@ -80,7 +80,7 @@ fn read_up_to(input: &mut [u8], from: usize, n: usize) -> usize
 }
 
 // Writes what waits.
-pub fn write_out(flow: Flow, output: &[u8]) {
+pub(crate) fn write_out(flow: Flow, output: &[u8]) {
     let out = flow.out;
     if out <= output.len() {
         io::write_all(STDOUT_FILENO, &output[..out]);
@@ -88,7 +88,7 @@ pub fn write_out(flow: Flow, output: &[u8]) {
 }
 
 // Sees to it that n unused bytes stand in the input, if it has them. Before it waits for input it writes what waits.
-pub fn await_bytes(flow: Flow, input: &mut [u8], output: &[u8], n: usize) -> Flow
+pub(crate) fn await_bytes(flow: Flow, input: &mut [u8], output: &[u8], n: usize) -> Flow
     requires { ⌜ Within flow (length (now input)) (length (now output)) ⌝ }
     ensures { λ r. ⌜ Within r (length (now (input .entry))) (length (now (output .entry))) ⌝ }
 {
@@ -107,7 +107,7 @@ pub fn await_bytes(flow: Flow, input: &mut [u8], output: &[u8], n: usize) -> Flo
 }
 
 // Writes what waits where n bytes would not fit behind it.
-pub fn make_room(flow: Flow, output: &[u8], n: usize) -> Flow
+pub(crate) fn make_room(flow: Flow, output: &[u8], n: usize) -> Flow
     requires { ⌜ flow .out ≤ length (now output) ⌝ }
     ensures { λ r. ⌜ (r .at ≡ flow .at) × (r .end ≡ flow .end) × (r .out ≤ length (now (output .entry))) ⌝ }
 {

@@ -58,7 +58,7 @@ fn counts_at(s: &[u8], at: usize) -> Counts
     }
 }
 
-pub fn head_at(s: &[u8], at: usize) -> Head
+pub(crate) fn head_at(s: &[u8], at: usize) -> Head
     requires { ⌜ at + 72 ≤ length (now s) ⌝ }
 {
     let counts = counts_at(s, at + 4);
@@ -76,7 +76,7 @@ pub fn head_at(s: &[u8], at: usize) -> Head
 }
 
 // Do a model's tables fit into their buffers?
-pub fn model_fits(n: Sizes) -> bool
+pub(crate) fn model_fits(n: Sizes) -> bool
     ensures { λ r. ⌜ (r ≡ true → ModelFits n 8448 4352 1088 1088) ⌝ }
 {
     if 8448 < n.links {
@@ -95,7 +95,7 @@ pub fn model_fits(n: Sizes) -> bool
 }
 
 // Do accumulators, positions, sheet and trace fit?
-pub fn run_fits(n: Sizes) -> bool
+pub(crate) fn run_fits(n: Sizes) -> bool
     ensures { λ r. ⌜ (r ≡ true → RunFits n 240 1088 66000) ⌝ }
 {
     if 80 < n.accums {
@@ -114,7 +114,7 @@ pub fn run_fits(n: Sizes) -> bool
 }
 
 // Bytes of the contents.
-pub fn contents_bytes(n: Sizes) -> usize
+pub(crate) fn contents_bytes(n: Sizes) -> usize
     ensures { λ r. ⌜ (r ≡ modelBytes n + runBytes n) × (r < 1099511627776) ⌝ }
 {
     let model = 4 * wide(n.links) + 4 * wide(n.axis) + 8 * wide(n.times) + wide(n.marks);

@@ -6,11 +6,17 @@ use crate::head::Head;
 use model::judge::Verdict;
 use model::judge::judge_tables;
 
-pub fn has(call: u32) -> bool {
+pub(crate) fn has(call: u32) -> bool {
     call == 0
 }
 
-pub fn answer(head: Head, links: &[u32], axis: &[u32], times: &[u64], marks: &[u8]) -> Reply {
+pub(crate) fn answer(
+    head: Head,
+    links: &[u32],
+    axis: &[u32],
+    times: &[u64],
+    marks: &[u8],
+) -> Reply {
     let counts = head.counts;
     let v = judge_tables(counts, links, axis, times, marks);
     match v {

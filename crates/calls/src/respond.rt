@@ -122,7 +122,7 @@ fn exchange(
 
 // Answers a whole request, whose contents start at `at`, at the place `out`; answers the place behind the response.
 // The call is lent the first parts of the buffers.
-pub fn respond(head: Head, input: &[u8], at: usize, output: &mut [u8], out: usize) -> usize
+pub(crate) fn respond(head: Head, input: &[u8], at: usize, output: &mut [u8], out: usize) -> usize
     requires { ⌜ at + modelBytes (head .sizes) + runBytes (head .sizes) ≤ length (now input) ⌝ }
     requires { ⌜ out + 16 + modelBytes (head .sizes) + runBytes (head .sizes) ≤ length (now output) ⌝ }
     requires { ⌜ Served (head .sizes) ⌝ }

@@ -23,7 +23,7 @@ fn is_query(call: u32) -> bool {
     call < 31
 }
 
-pub fn has(call: u32) -> bool {
+pub(crate) fn has(call: u32) -> bool {
     if is_call(call) {
         return true;
     }
@@ -68,7 +68,7 @@ fn query_of(head: Head, links: &[u32], axis: &[u32], times: &[u64], marks: &[u8]
     }
 }
 
-pub fn answer(
+pub(crate) fn answer(
     head: Head,
     links: &mut [u32],
     axis: &mut [u32],

@@ -83,7 +83,7 @@ fn step(flow: Flow, input: &mut [u8], output: &mut [u8]) -> Flow
 }
 
 // Until the input ends or a request stops the flow. Nothing proves that an input ends, so turns are counted down.
-pub fn serve(input: &mut [u8], output: &mut [u8]) {
+pub(crate) fn serve(input: &mut [u8], output: &mut [u8]) {
     let mut flow = started();
     let mut turns = u64::MAX;
     while 0 < turns {

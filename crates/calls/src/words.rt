@@ -15,13 +15,13 @@ fn long(x: u32) -> u64
     x as u64
 }
 
-pub fn u32_at(s: &[u8], i: usize) -> u32
+pub(crate) fn u32_at(s: &[u8], i: usize) -> u32
     requires { ⌜ i + 4 ≤ length (now s) ⌝ }
 {
     byte(s[i]) + 256 * (byte(s[i + 1]) + 256 * (byte(s[i + 2]) + 256 * byte(s[i + 3])))
 }
 
-pub fn u64_at(s: &[u8], i: usize) -> u64
+pub(crate) fn u64_at(s: &[u8], i: usize) -> u64
     requires { ⌜ i + 8 ≤ length (now s) ⌝ }
 {
     let low = u32_at(s, i);
@@ -38,13 +38,13 @@ fn signed(n: u64) -> i64 {
     -1 - (m as i64)
 }
 
-pub fn i64_at(s: &[u8], i: usize) -> i64
+pub(crate) fn i64_at(s: &[u8], i: usize) -> i64
     requires { ⌜ i + 8 ≤ length (now s) ⌝ }
 {
     signed(u64_at(s, i))
 }
 
-pub fn put_u32(s: &mut [u8], i: usize, x: u32)
+pub(crate) fn put_u32(s: &mut [u8], i: usize, x: u32)
     requires { ⌜ i + 4 ≤ length (now s) ⌝ }
 {
     s[i] = (x % 256) as u8;
@@ -53,7 +53,7 @@ pub fn put_u32(s: &mut [u8], i: usize, x: u32)
     s[i + 3] = (x / 16777216) as u8;
 }
 
-pub fn put_u64(s: &mut [u8], i: usize, x: u64)
+pub(crate) fn put_u64(s: &mut [u8], i: usize, x: u64)
     requires { ⌜ i + 8 ≤ length (now s) ⌝ }
 {
     put_u32(s, i, (x % 4294967296) as u32);
@@ -69,7 +69,7 @@ fn bits(x: i64) -> u64 {
     x as u64
 }
 
-pub fn put_i64(s: &mut [u8], i: usize, x: i64)
+pub(crate) fn put_i64(s: &mut [u8], i: usize, x: i64)
     requires { ⌜ i + 8 ≤ length (now s) ⌝ }
 {
     put_u64(s, i, bits(x));

@@ -26,8 +26,10 @@ use Rattle.simulation.specs.Kept.{Kept, kept-ins, dropped-within, droppe
 use Rattle.simulation.specs.PlacedLaws.{placed-sorted, due-beside, not-ended}
 use Rattle.simulation.specs.Procedures.{Sqs, made, timeOf, idleAt, found, dropOn, cancelled, vain, dueAt, placeFor, scheduled, activated}
 use Rattle.simulation.specs.ByDue.{by-behind, by-front}
-use Rattle.simulation.specs.Places.{half, SpellsTime, Process, Spot, is-process, times-at, drop-spells, put-spells, found-spot, first-spot, after-spot, before-spot}
-use Rattle.simulation.specs.Agree.{sqsOf, Agrees, its-time, its-kept, respell, st, time-is, Party, party, has-in, has-none, idle-has, drop-agrees}
+use Rattle.simulation.specs.Places.{half, SpellsTime, Process, is-process, times-at, drop-spells}
+use Rattle.simulation.specs.Spots.{Spot, put-spells, found-spot, first-spot, after-spot, before-spot}
+use Rattle.simulation.specs.Agree.{sqsOf, Agrees, its-time, its-kept, respell, st, time-is}
+use Rattle.simulation.specs.AgreeEnds.{Party, party, has-in, has-none, idle-has, drop-agrees}
 
 -- ---- numbers and tests
 

@@ -1,6 +1,6 @@
 -- The sequencing calls on judged tables: refusal 3 by the operands, else the published procedure with its refusals 4, 5 and 6.
 use Prim.Native.Nat.{ℕ, _+_, _-_}
-use mathlib.Core.Bool.{Bool, true, false}
+use mathlib.Core.Bool.{Bool}
 use mathlib.Core.List.{List}
 use lib.Dec.{eqb, leb}
 use lib.IntN.{ℤ}
@@ -12,7 +12,7 @@ use Rattle.counts.specs.Counts.{total, isHead, isProcess, placeOf, linkageAt}
 use Rattle.model.specs.declared.answer.Answer.{Answer}
 use Rattle.model.specs.declared.answer.Answer.the-variants.{Linkage, Number, Truth, Refused}
 use Rattle.model.specs.Tables.{Tables, After}
-use Rattle.simset.specs.Calls.{orNone}
+use Rattle.simset.specs.Calls.{orNone, telling}
 use Rattle.simset.specs.Procedures.{preceded}
 use Rattle.simulation.specs.Plain.{above, timedNeed}
 use Rattle.simulation.specs.Procedures.{Sqs, Outcome, made, turnedDown, firstOf, timeOf, sucOf, idleAt, lone, dropOn, held, passivated, cancelled, finishedMarks, activated}
@@ -65,10 +65,6 @@ waitStep c y links a =
     else record { links = links; outcome = turnedDown Operand a }
 
 -- ---- queries: a process is read, so none is refused
-
-abbrev pub telling : Bool → Answer → Answer
-telling true a = a
-telling false a = Refused Operand
 
 unfoldable pub currentTold : Counts → Sqs → Answer
 currentTold c a = Linkage (linkageAt c (firstOf (half c) a))

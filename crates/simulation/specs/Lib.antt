@@ -11,6 +11,7 @@ pub mod WalkBack
 pub mod ByDue
 pub mod Seek
 pub mod Places
+pub mod Spots
 pub mod Rank
 pub mod Plain
 pub mod Calls
@@ -18,6 +19,7 @@ pub mod Promise
 pub mod Sign
 pub mod Kept
 pub mod Agree
+pub mod AgreeEnds
 pub mod PlacedLaws
 pub mod AgreeTimed
 pub mod StepPromise

@@ -26,13 +26,14 @@ use Rattle.simset.specs.Sets.{precedeSets}
 use Rattle.simset.specs.Procedures.{preceded}
 use Rattle.simset.specs.Promise.{none-or, head-in}
 use Rattle.simset.specs.Laws.{sets-preceded}
-use Rattle.simset.specs.Meaning.{called-is, link-of}
+use Rattle.simset.specs.Meaning.{called-is, link-of, withSets}
 use Rattle.simulation.specs.NoticeOps.{first}
-use Rattle.simulation.specs.Plain.{Result, refused, done, current, withSets, above, hold, passivate, wait, cancel, finish, dueFor, placed, noEffect, timedNeed, timed}
+use Rattle.simulation.specs.Plain.{Result, refused, done, current, above, hold, passivate, wait, cancel, finish, dueFor, placed, noEffect, timedNeed, timed}
 use Rattle.simulation.specs.Procedures.{Sqs, Outcome, made, turnedDown, firstOf, lone, dropOn, passivated, activated}
 use Rattle.simulation.specs.Calls.{Marked, holdStep, passivateStep, cancelStep, timedStep, finishStep, waitStep, onSqs, onMarks, onSets}
 use Rattle.simulation.specs.Places.{half, Process}
-use Rattle.simulation.specs.Agree.{sqsOf, withSqs, withMarks, Agrees, AgreesMarked, st, first-is, process-first, hold-agrees, passivate-agrees, cancel-agrees, finish-agrees, lone-leaves, wait-agrees}
+use Rattle.simulation.specs.Agree.{sqsOf, withSqs, withMarks, Agrees, AgreesMarked, st, first-is, process-first, hold-agrees}
+use Rattle.simulation.specs.AgreeEnds.{passivate-agrees, cancel-agrees, finish-agrees, lone-leaves, wait-agrees}
 use Rattle.simulation.specs.AgreeTimed.{timed-agrees}
 
 -- the call does what the plain call does

@@ -14,6 +14,7 @@ use Rattle.model.specs.Notices.{Notice, dueOf}
 use Rattle.model.specs.Tables.{Lists}
 use Rattle.simset.specs.Sets.{precedeSets}
 use Rattle.simset.specs.Calls.{orNone}
+use Rattle.simset.specs.Meaning.{withSets}
 use Rattle.simulation.specs.NoticeOps.{behindAll, frontAll, before, after, dropped, hasNotice, rest, first}
 
 -- a call on lists is refused, or leaves lists
@@ -33,9 +34,6 @@ withNotices l ns = record { sets = l .sets; notices = ns; terminated = l .termin
 
 abbrev pub withTerminated : Lists → List ℕ → Lists
 withTerminated l k = record { sets = l .sets; notices = l .notices; terminated = k }
-
-abbrev pub withSets : Lists → List (List ℕ) → Lists
-withSets l k = record { sets = k; notices = l .notices; terminated = l .terminated }
 
 -- refusal 3, by the kind of an operand
 abbrev pub need : Bool → Result → Result

@@ -7,7 +7,7 @@ use native.Mathlib.Omega.{arith}
 use lib.Dec.{leb, eqb}
 use lib.ListN.{length, getD, set, List·getD-eq-default}
 use lib.Seq.{set-out}
-use borrow.Author.Tests.{eq-eqb, ne-eqb, le-leb, lt-leb}
+use borrow.Author.Tests.{le-leb, lt-leb}
 use Rattle.ring.specs.Table.{Sound}
 use Rattle.ring.specs.Lists.{below, if_then_else_}
 use Rattle.counts.specs.declared.Counts.{Counts}
@@ -92,16 +92,6 @@ pub record AnswersMarked (m : ℕ) (want : Outcome) (wantMarks : List ℕ) (axis
   pub is : record { answer = r; left = sqs axis times } ≡ want
   pub sound : Sound m axis
   pub marked : marks ≡ wantMarks
-
--- EVENT.suc, 0 where that is the head
-pub record Next (m x : ℕ) (axis : List ℕ) (r : ℕ) : Type 0 where
-  pub is : r ≡ (if eqb (getD axis x 0) (m - 1) then 0 else getD axis x 0)
-
-pub next-none : (m x c s : ℕ) (axis : List ℕ) → c ≡ x → s ≡ getD axis c 0 → s ≡ m - 1 → Next m x axis 0
-next-none m x c s axis ec es e = record { is = rw (← ec, eq-eqb (getD axis c 0) (m - 1) (sym es ∙ e)) }
-
-pub next-some : (m x c s : ℕ) (axis : List ℕ) → c ≡ x → s ≡ getD axis c 0 → (s ≡ m - 1 → ⊥) → Next m x axis (getD axis c 0)
-next-some m x c s axis ec es n = record { is = rw (← ec, ne-eqb (getD axis c 0) (m - 1) (λ h. n (es ∙ h))) }
 
 -- ---- what a judged model gives the calls: limits, a sound axis, and a first notice
 

@@ -21,14 +21,16 @@ use Rattle.model.specs.declared.answer.Answer.the-variants.{Linkage, Number, Tr
 use Rattle.model.specs.Notices.{Notice, whos, places, dueOf}
 use Rattle.model.specs.Tables.{Tables, Lists, Sized, Spells}
 use Rattle.model.specs.Answers.{asked}
+use Rattle.simset.specs.Calls.{telling}
 use Rattle.simset.specs.Meaning.{asked-is}
 use Rattle.simulation.specs.NoticeOps.{hasNotice, first}
 use Rattle.simulation.specs.Plain.{current, time}
 use Rattle.simulation.specs.Procedures.{Sqs, idleAt}
-use Rattle.simulation.specs.Calls.{telling, currentTold, timeTold, idleTold, terminatedTold, evtimeTold, nextevTold}
+use Rattle.simulation.specs.Calls.{currentTold, timeTold, idleTold, terminatedTold, evtimeTold, nextevTold}
 use Rattle.model.specs.Reading.{who-place}
 use Rattle.simulation.specs.Places.{half, SpellsTime, Process, chain, off-head, is-process, times-at, member}
-use Rattle.simulation.specs.Agree.{sqsOf, its-time, st, first-is, process-first, time-is, Party, has-in, idle-has}
+use Rattle.simulation.specs.Agree.{sqsOf, its-time, st, first-is, process-first, time-is}
+use Rattle.simulation.specs.AgreeEnds.{Party, has-in, idle-has}
 use Rattle.simulation.specs.AgreeTimed.{marks-at}
 use Rattle.simulation.specs.Meaning.{split}
 

@@ -17,7 +17,8 @@ use Rattle.simulation.specs.NoticeLaws.{from-less}
 use Rattle.model.specs.Reading.{Timed}
 use Rattle.simulation.specs.Procedures.{Sqs, lastBelow, found}
 use Rattle.simulation.specs.ByDue.{spotIn}
-use Rattle.simulation.specs.Places.{half, SpellsTime, chain, timed, off-head, walk-is, seek-is, few}
+use Rattle.simulation.specs.Places.{half, SpellsTime, chain, timed, off-head}
+use Rattle.simulation.specs.Spots.{walk-is, seek-is, few}
 
 -- for P:- P while P.EVTIME = u do P:- P.pred, with at most k steps; the head ends it
 unfoldable pub whileEqual : ℕ → List ℕ → ℕ → List ℕ → ℕ → ℕ → ℕ

@@ -13,12 +13,12 @@ use mir.Syntax.{w64}
 use mir.Val.{SFits, toZ, ofZ}
 use mir.ValLaws.{toZ-ofZ}
 use Rattle.counts.specs.declared.Counts.{Counts}
-use Rattle.counts.specs.declared.Refusal.the-variants.{Operand, Idle}
+use Rattle.counts.specs.declared.Refusal.the-variants.{Idle}
 use Rattle.counts.specs.Counts.{isProcess, placeOf, linkageAt}
 use Rattle.model.specs.declared.answer.Answer.{Answer}
 use Rattle.model.specs.declared.answer.Answer.the-variants.{Linkage, Number, Refused}
 use Rattle.simulation.specs.Procedures.{Sqs, Outcome}
-use Rattle.simulation.specs.Calls.{half, telling, Marked, Waited, onSqs, onMarks, onSets, currentTold, timeTold, evtimeTold, nextevTold}
+use Rattle.simulation.specs.Calls.{half, Marked, Waited, onSqs, onMarks, onSets, currentTold, timeTold, evtimeTold, nextevTold}
 use Rattle.simulation.specs.Promise.{sqs, Answers, Place, Read}
 use Rattle.simulation.specs.StepPromise.{FinishMade, WaitMade, process-in}
 
@@ -29,12 +29,6 @@ is-in c x e = process-in c x (rw e (or-true (eqb x 0)))
     or-true : (b : Bool) → _≡_ {A = Bool} (b || true) true
     or-true true = refl
     or-true false = refl
-
-pub told-not : (b : Bool) (a : Answer) → b ≡ false → Refused Operand ≡ telling b a
-told-not b a e = rw e
-
-pub told : (b : Bool) (a r : Answer) → b ≡ true → r ≡ a → r ≡ telling b a
-told b a r e f = rw e f
 
 module _ (c : Counts) (axis times : List ℕ) where
   pub current-told : (f x : ℕ) → Place (half c) (getD axis (half c - 1) 0) f → x ≡ c .heads + f → Linkage x ≡ currentTold c (sqs axis times)

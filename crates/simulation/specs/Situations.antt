@@ -21,7 +21,8 @@ use Rattle.model.specs.Fresh.{freshHeads, freshAxis, freshTables, freshLists}
 use Rattle.simset.specs.Sets.{followSets, precedeSets}
 use Rattle.simset.specs.Procedures.{followOn, followed, precedeOn, preceded}
 use Rattle.simset.specs.Calls.{followStep, intoStep, onLinks}
-use Rattle.simulation.specs.Plain.{Result, refused, done, withSets, hold, dueFor, placed, noEffect, timed}
+use Rattle.simset.specs.Meaning.{withSets}
+use Rattle.simulation.specs.Plain.{Result, refused, done, hold, dueFor, placed, noEffect, timed}
 use Rattle.simulation.specs.Procedures.{seekFrom, found, dropOn, putOn, heldAt, held, passivated, cancelled, vain, dueAt, placeFor, scheduled, activated}
 use Rattle.simulation.specs.Calls.{holdStep, timedStep, onSqs}
 

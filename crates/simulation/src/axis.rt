@@ -8,7 +8,7 @@ ghost use Prim.Native.Nat.{_+_, _-_, _<_, _≤_};
 ghost use lib.ListN.{getD};
 ghost use Rattle.ring.specs.Table.{Sound};
 ghost use Rattle.simulation.specs.Procedures.{found, dropOn, putOn};
-ghost use Rattle.simulation.specs.Promise.{sqs, Left, Place, Read, Stored, Lone, Next, capped};
+ghost use Rattle.simulation.specs.Promise.{sqs, Left, Place, Read, Stored, Lone, capped};
 
 // The time at a place, 0 past the table's end.
 pub fn due(times: &[u64], i: usize) -> u64
@@ -136,18 +136,4 @@ pub fn move_to(axis: &mut [u32], m: usize, times: &mut [u64], x: u32, w: u64, u:
     drop(axis, m, times, x);
     let q = seek(axis, m, times, w);
     put(axis, m, times, x, q, u);
-}
-
-// The place behind x's on the axis, 0 where that is the head: nextev of a process that is not idle.
-pub fn next_of(axis: &[u32], m: usize, x: u32) -> u32
-    requires { ⌜ Sound m (now axis) ⌝ }
-    requires { ⌜ x < m ⌝ }
-    ensures { λ r. ⌜ Next m x (now (axis .entry)) r ⌝ }
-{
-    let c = wide(x);
-    let s = axis[c];
-    if wide(s) == m - 1 {
-        return 0;
-    }
-    s
 }

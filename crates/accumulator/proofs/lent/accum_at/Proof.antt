@@ -50,6 +50,7 @@ use Rattle.counts.specs.Counts.{limit}
 use Rattle.counts.specs.declared.Counts.{Counts}
 use Rattle.counts.proofs.Counts as Co
 use Rattle.counts.proofs.Counts.Laws as Co′
+use Rattle.model.specs.Tables.{Tables as Model}
 use Rattle.model.specs.declared.answer.Answer.{Answer}
 use Rattle.model.proofs.answer.Answer as An
 use Rattle.model.proofs.answer.Answer.Laws as An′
@@ -68,10 +69,13 @@ use Rattle.accumulator.proofs.Picked as P
 use Rattle.accumulator.proofs.Picked.Laws as P′
 use Rattle.accumulator.proofs.judge.pick as picks
 use Rattle.accumulator.proofs.judge.pick.Symbol as picks-def
+use Rattle.accumulator.proofs.judge.pick.Symbol.{name as #pick}
 use Rattle.accumulator.proofs.judge.pick.Met as picks-thm
 use Rattle.accumulator.proofs.calls.accum_at_time as step
 use Rattle.accumulator.proofs.calls.accum_at_time.Symbol as step-def
+use Rattle.accumulator.proofs.calls.accum_at_time.Symbol.{name as #step}
 use Rattle.accumulator.proofs.calls.accum_at_time.Met as step-thm
+use Rattle.accumulator.proofs.lent.accum_at.Key.{name as #at}
 use Rattle.accumulator.proofs.lent.accum_at as this
 use Rattle.accumulator.proofs.lent.accum_at.Statement as stated
 use Rattle.accumulator.proofs.lent.accum_at.Code as code

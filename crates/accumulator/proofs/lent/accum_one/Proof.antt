@@ -58,7 +58,9 @@ use Rattle.accumulator.proofs.Kept as U
 use Rattle.accumulator.proofs.Kept.Laws as U′
 use Rattle.accumulator.proofs.calls.accum_alone as alone
 use Rattle.accumulator.proofs.calls.accum_alone.Symbol as alone-def
+use Rattle.accumulator.proofs.calls.accum_alone.Symbol.{name as #alone}
 use Rattle.accumulator.proofs.calls.accum_alone.Met as alone-thm
+use Rattle.accumulator.proofs.lent.accum_one.Key.{name as #one}
 use Rattle.accumulator.proofs.lent.accum_one as one
 use Rattle.accumulator.proofs.lent.accum_one.Statement as stated
 use Rattle.accumulator.proofs.lent.accum_one.Code as code

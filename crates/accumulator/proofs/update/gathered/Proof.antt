@@ -1,4 +1,4 @@
-use lib.IntN.{pos, _-ℤ_, _*ℤ_}
+use lib.IntN.{pos, _+ℤ_, _-ℤ_, _*ℤ_}
 use mathlib.Core.Path.{_≡_, refl, _∙_}
 use Rattle.accumulator.specs.Signed.{asks2, gives2, word, kept}
 use Rattle.accumulator.specs.Keeps.{since-fits, product-fits, sum-fits}

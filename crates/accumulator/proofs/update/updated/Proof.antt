@@ -1,6 +1,6 @@
 use mathlib.Core.Bool.{Bool}
 use mathlib.Core.Path.{_≡_, refl, sym, _∙_, ap}
-use lib.IntN.{ℤ, pos, _-ℤ_}
+use lib.IntN.{ℤ, pos, _+ℤ_, _-ℤ_, _*ℤ_}
 use Rattle.accumulator.specs.Signed.{word, kept, asks2, gives2, ap2}
 use Rattle.accumulator.specs.Update.{mayUpdate, updated-not}
 use Rattle.accumulator.specs.Keeps.{stored-growable, rate-fits, stored-to}

@@ -1,5 +1,5 @@
-use Rattle.simulation.specs.ReadPromise.{is-in, told-not, evtime-idle, evtime-some}
-use Rattle.simset.specs.Promise.{failed, passed}
+use Rattle.simulation.specs.ReadPromise.{is-in, evtime-idle, evtime-some}
+use Rattle.simset.specs.Promise.{told-not, failed, passed}
 use mathlib.Core.Path.{_∙_}
 use Rattle.simulation.specs.Calls.{evtimeTold}
 use borrow.Author.Needs.{needs}

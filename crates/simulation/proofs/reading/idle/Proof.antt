@@ -1,5 +1,5 @@
-use Rattle.simulation.specs.ReadPromise.{is-in, told-not, told}
-use Rattle.simset.specs.Promise.{failed, passed}
+use Rattle.simulation.specs.ReadPromise.{is-in}
+use Rattle.simset.specs.Promise.{told-not, told, failed, passed}
 use Rattle.simulation.specs.Calls.{idleTold}
 use borrow.Author.Needs.{needs}
 use native.Mathlib.Omega.{arith}

@@ -1,5 +1,5 @@
-use Rattle.simulation.specs.ReadPromise.{is-in, told-not, nextev-idle, nextev-last, nextev-next}
-use Rattle.simset.specs.Promise.{failed, passed}
+use Rattle.simulation.specs.ReadPromise.{is-in, nextev-idle, nextev-last, nextev-next}
+use Rattle.simset.specs.Promise.{told-not, failed, passed}
 use mathlib.Core.Path.{_∙_}
 use Rattle.simulation.specs.Calls.{nextevTold}
 use borrow.Author.Needs.{needs}

@@ -1,5 +1,4 @@
-use Rattle.simulation.specs.ReadPromise.{told-not, told}
-use Rattle.simset.specs.Promise.{failed, passed}
+use Rattle.simset.specs.Promise.{told-not, told, failed, passed}
 use Rattle.simulation.specs.Calls.{terminatedTold}
 use borrow.Author.Needs.{needs}
 use Rattle.simulation.proofs.reading.terminated.Statement.{statement}
