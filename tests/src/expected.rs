@@ -10,12 +10,19 @@ use crate::sim::tables;
 
 /// Whether the calls program knows this call.
 pub fn known(call: u32) -> bool {
-    matches!(call, number::JUDGE..=number::ACCUM | number::FIRST..=number::FINISH | number::RUN)
+    matches!(call, number::JUDGE..=number::ACCUM | number::FIRST..=number::FINISH | number::RUN..=number::CHECK)
 }
 
 /// Code, line count, answer and every word afterwards.
 pub fn expected(request: &Request) -> Response {
     let mut lent = request.lent.clone();
+    if request.call.number == number::CHECK {
+        let (code, answer) = match sheet::decode(&request.sheet) {
+            Ok(sheet) => (0, u64::from(sheet.size())),
+            Err(refusal) => (refusal, 0),
+        };
+        return Response { code, lines: 0, answer, lent };
+    }
     if request.call.number == number::RUN {
         let (code, lines) = match run(request, &mut lent) {
             Ok(end) => end,

@@ -4,6 +4,7 @@ use crate::head::Head;
 use crate::judge_call;
 use crate::sequencing_calls;
 use crate::set_calls;
+use crate::sheet_call;
 use counts::Refusal;
 use model::answer::Answer;
 
@@ -48,6 +49,9 @@ pub(crate) fn known(call: u32) -> bool {
     if accum_calls::has(call) {
         return true;
     }
+    if sheet_call::has(call) {
+        return true;
+    }
     judge_call::has(call)
 }
 
@@ -72,6 +76,9 @@ pub(crate) fn answer(
     }
     if accum_calls::has(call) {
         return accum_calls::answer(head, links, axis, times, marks, accums);
+    }
+    if sheet_call::has(call) {
+        return sheet_call::answer(sheet);
     }
     judge_call::answer(head, links, axis, times, marks)
 }

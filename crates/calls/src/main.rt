@@ -10,6 +10,7 @@ mod respond;
 mod sequencing_calls;
 mod serve;
 mod set_calls;
+mod sheet_call;
 mod words;
 
 use serve::serve;

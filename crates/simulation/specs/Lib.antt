@@ -28,3 +28,4 @@ pub mod Meaning
 pub mod QueryMeaning
 pub mod Situations
 pub mod Ties
+pub mod Forward

@@ -24,6 +24,7 @@ fn codes(call: u32) -> &'static [u32] {
         op::ACCUM_ALONE => &[0, 1, 2, 7],
         op::EVTIME => &[0, 1, 2, 3, 6],
         op::RUN => &[0, 1, 2, 3, 4, 5, 7, 8, 200],
+        op::CHECK => &[0, 8],
         _ => &[0, 1, 2, 3],
     }
 }

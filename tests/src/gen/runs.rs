@@ -81,6 +81,20 @@ pub fn case(rng: &mut Rng) -> Case {
     Case { request: request(rng, bytes, counts, lent), note }
 }
 
+/// The check of a sheet, good or damaged, by itself.
+pub fn check(rng: &mut Rng) -> Case {
+    let sheet = sheets::any(rng);
+    let (note, bytes) = if rng.chance(50) {
+        let (class, damaged) = sheet_damage::any(rng, sheet);
+        (class.name, damaged)
+    } else {
+        ("", sheet.encode())
+    };
+    let call = Call::new(number::CHECK);
+    let request = Request { call, counts: Counts::new(0, 0, 0), lent: Lent::default(), sheet: bytes };
+    Case { request, note }
+}
+
 /// Good runs that no sheet leads to: any positions, accumulators of any kind.
 fn vary(rng: &mut Rng, sheet: &Sheet, run: &mut Run) {
     if rng.chance(15) {

@@ -22,7 +22,7 @@ fn weight(call: u32) -> u64 {
 
 /// Every call number that the stream can make.
 pub fn all_calls() -> Vec<u32> {
-    (0..=number::RUN).filter(|&call| known(call)).collect()
+    (0..=number::CHECK).filter(|&call| known(call)).collect()
 }
 
 pub struct Stream {
@@ -43,8 +43,10 @@ impl Stream {
 
     pub fn next(&mut self) -> Case {
         let number = self.rng.weighted(&self.calls);
-        if number == number::RUN {
-            return runs::case(&mut self.rng);
+        match number {
+            number::RUN => return runs::case(&mut self.rng),
+            number::CHECK => return runs::check(&mut self.rng),
+            _ => {}
         }
         self.walk.go_on(&mut self.rng);
         if number == number::FINISH && self.rng.chance(60) {

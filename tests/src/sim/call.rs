@@ -34,6 +34,7 @@ pub mod number {
     pub const ACCUM_ALONE: u32 = 31;
     pub const FINISH: u32 = 32;
     pub const RUN: u32 = 40;
+    pub const CHECK: u32 = 41;
 }
 
 /// A call with its operands; those that the call does not use are not looked at.
