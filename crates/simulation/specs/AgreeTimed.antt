@@ -1,7 +1,6 @@
 -- ACTIVATE on tables that spell lists does what activate and reactivate do to the lists, with the same refusals.
 use Prim.Native.Nat.{ℕ, suc, _+_, _-_, _≤_, max}
 use mathlib.Core.Path.{_≡_, refl, sym, ap, _∙_, subst}
-use mathlib.Core.Logic.{_≢_}
 use mathlib.Core.Bool.{Bool, true, false, not, _&&_, _||_}
 use mathlib.Core.List.{List, [], _∷_}
 use native.Mathlib.Omega.{arith}
@@ -23,7 +22,7 @@ use Rattle.simulation.specs.Plain.{done, time, withNotices, above, leavi
 use Rattle.simulation.specs.NoticeLaws.{ins-new, drop-in, drop-gone, drop-old, drop-sorted, drop-from, drop-due}
 use Rattle.simulation.specs.BesideLaws.{before-none, after-none}
 use Rattle.simulation.specs.Kept.{Kept, kept-ins, dropped-within, dropped-idle}
-use Rattle.simulation.specs.PlacedLaws.{placed-sorted, due-beside, not-ended}
+use Rattle.simulation.specs.PlacedLaws.{placed-sorted, due-beside, not-ended, others-y}
 use Rattle.simulation.specs.Procedures.{Sqs, made, timeOf, idleAt, found, dropOn, cancelled, vain, dueAt, placeFor, scheduled, activated}
 use Rattle.simulation.specs.ByDue.{by-behind, by-front}
 use Rattle.simulation.specs.Places.{half, SpellsTime, Process, is-process, times-at, drop-spells}
@@ -45,15 +44,11 @@ not-not : (b : Bool) → not (not b) ≡ b
 not-not true = refl
 not-not false = refl
 
-or-right : (a b : Bool) → a || b ≡ false → b ≡ false
-or-right true b e = clash e
-or-right false b e = e
-
 and-tail : (a b d : Bool) → (a ≡ true → b ≡ d) → (a && b) ≡ (a && d)
 and-tail true b d f = f refl
 and-tail false b d f = refl
 
-front-first : (n : Notice) (t : ℕ) (l : List Notice) → n .due ≤ t → From t l → frontAll n l ≡ n ∷ l
+pub front-first : (n : Notice) (t : ℕ) (l : List Notice) → n .due ≤ t → From t l → frontAll n l ≡ n ∷ l
 front-first n t [] b f = refl
 front-first n t (k ∷ ks) b f = rw (le-ltb (k .due) (n .due) (omega (arith, f .0)))
 
@@ -128,18 +123,6 @@ module _ (c : Counts) (M : Lists) (t : Tables) (sp : Spells c M t) (n : Notice) 
       let ed : (leb 5 k && eqb (x - c .heads) (y - c .heads)) ≡ (leb 5 k && eqb x y) = and-tail (leb 5 k) _ _ (λ l. same-party x y p (g (leb-true 5 k l))) in
       rw (ea, eb, ec, ed)
 
-  -- an effective call's X is not its Y, where that has a notice
-  others-y : (again : Bool) (k x y : ℕ) → 5 ≤ k → noEffect again k x y M ≡ false → hasNotice y (M .notices) ≡ true → y ≢ x
-  unfolding noEffect
-  others-y again k x y l f h q =
-      let r : hasNotice x (M .notices) && (not again || (leb 5 k && eqb x y)) ≡ false = or-right (eqb x 0 || has x (M .terminated)) _ f in
-      let hx : hasNotice x (M .notices) ≡ true = subst (λ (z : ℕ). hasNotice z (M .notices) ≡ true) q h in
-      clash (sym (or-true again) ∙ (rw (hx, le-leb 5 k l, eq-eqb x y (sym q)) at r))
-    where
-      or-true : (b : Bool) → (not b || true) ≡ true
-      or-true true = refl
-      or-true false = refl
-
   not-placed : (k x y u : ℕ) → 5 ≤ k → k ≤ 6 → hasNotice y (M .notices) ≡ false
       → placed k y (record { who = x; due = u }) (dropped x (M .notices)) ≡ dropped x (M .notices)
   unfolding placed
@@ -197,7 +180,7 @@ module _ (c : Counts) (M : Lists) (t : Tables) (sp : Spells c M t) (n : Notice) 
           (not-ended again k x y M f)
 
       stands : 5 ≤ k → hasNotice y (M .notices) ≡ true → In y (whos (dropped x (M .notices)))
-      stands l h = drop-old x (M .notices) y (others-y again k x y l f h) (has-in y (M .notices) h)
+      stands l h = drop-old x (M .notices) y (others-y again k x y M l f h) (has-in y (M .notices) h)
 
   its-process : (again : Bool) (k x y : ℕ) → Party c x → noEffect again k x y M ≡ false → Process c x
   unfolding noEffect

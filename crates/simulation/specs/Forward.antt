@@ -24,8 +24,8 @@ use Rattle.simulation.specs.BesideLaws.{before-ins, after-ins, before-no
 use Rattle.simulation.specs.StepPromise.{clause-in}
 use Rattle.simulation.specs.AgreeEnds.{has-in, has-none}
 
--- a result whose notices are all due from t on, with one at least
-abbrev Later : ℕ → Result → Type 0
+-- refused, or done at a time that is at least t
+abbrev pub Later : ℕ → Result → Type 0
 Later t (refused r) = Unit {0}
 Later t (done l) = t ≤ time l
 

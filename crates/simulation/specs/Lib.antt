@@ -29,3 +29,4 @@ pub mod QueryMeaning
 pub mod Situations
 pub mod Ties
 pub mod Forward
+pub mod Replace

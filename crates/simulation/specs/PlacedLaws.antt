@@ -1,17 +1,19 @@
--- An effective activate or reactivate keeps the notices in order and places no terminated process.
+-- An effective activate or reactivate keeps the notices in order, and what its X is not: none, terminated, a Y that has a notice.
 use Prim.Native.Nat.{ℕ, _≤_}
-use mathlib.Core.Path.{_≡_, refl, sym, _∙_}
-use mathlib.Core.Bool.{Bool, true, false, _||_}
+use mathlib.Core.Path.{_≡_, refl, sym, _∙_, subst}
+use mathlib.Core.Logic.{_≢_}
+use mathlib.Core.Bool.{Bool, true, false, not, _&&_, _||_}
 use mathlib.Core.List.{List}
 use native.Mathlib.Omega.{arith}
-use lib.Dec.{eqb}
+use lib.Dec.{eqb, leb}
 use lib.IntN.{ℤ}
-use borrow.Author.Tests.{ne-eqb, eqb-true, le-leb}
+use borrow.Author.Tests.{eq-eqb, ne-eqb, eqb-true, le-leb}
 use Rattle.ring.specs.Lists.{In, test}
 use Rattle.ring.specs.Tabulate.{has, in-has}
 use Rattle.model.specs.Notices.{Notice, whos, dueOf, InOrder}
 use Rattle.model.specs.Tables.{Lists}
 use Rattle.simulation.specs.Choice.{clash}
+use Rattle.simulation.specs.NoticeOps.{hasNotice}
 use Rattle.simulation.specs.Plain.{dueFor, placed, noEffect}
 use Rattle.simulation.specs.PutLaws.{last-sorted, front-sorted}
 use Rattle.simulation.specs.BesideLaws.{before-sorted, after-sorted}
@@ -45,3 +47,21 @@ pub not-ended : (again : Bool) (k x y : ℕ) (l : Lists) → noEffect again k x 
 unfolding noEffect
 not-ended again k x y l e i =
     clash (sym (in-has x (l .terminated) i) ∙ or-second (eqb x 0) _ (or-first (eqb x 0 || has x (l .terminated)) _ e))
+
+-- nor of none
+pub not-none : (again : Bool) (k x y : ℕ) (l : Lists) → noEffect again k x y l ≡ false → x ≢ 0
+unfolding noEffect
+not-none again k x y l e q =
+    clash (sym (eq-eqb x 0 q) ∙ or-first (eqb x 0) _ (or-first (eqb x 0 || has x (l .terminated)) _ e))
+
+-- its X is not its Y, where that has a notice
+pub others-y : (again : Bool) (k x y : ℕ) (l : Lists) → 5 ≤ k → noEffect again k x y l ≡ false → hasNotice y (l .notices) ≡ true → y ≢ x
+unfolding noEffect
+others-y again k x y l k5 f h q =
+    let r : hasNotice x (l .notices) && (not again || (leb 5 k && eqb x y)) ≡ false = or-second (eqb x 0 || has x (l .terminated)) _ f in
+    let hx : hasNotice x (l .notices) ≡ true = subst (λ (z : ℕ). hasNotice z (l .notices) ≡ true) q h in
+    clash (sym (or-true again) ∙ (rw (hx, le-leb 5 k k5, eq-eqb x y (sym q)) at r))
+  where
+    or-true : (b : Bool) → (not b || true) ≡ true
+    or-true true = refl
+    or-true false = refl
