@@ -19,7 +19,7 @@ ghost use Rattle.counts.specs.Counts.{limit};
 ghost use Rattle.accumulator.specs.Calls.{accumOne, accumAlone, accumListed};
 
 // Accum at a time: the new accumulator, or refusal 7 and the old one.
-pub fn accum_at_time(x: Accumulator, time: u64, d: i64) -> Kept
+pub(crate) fn accum_at_time(x: Accumulator, time: u64, d: i64) -> Kept
     requires { ⌜ time ≤ limit ⌝ }
     ensures { λ r. ⌜ r ≡ accumOne x time d ⌝ }
 {

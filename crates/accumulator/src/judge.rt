@@ -11,7 +11,7 @@ ghost use Rattle.model.specs.Ready.{Ready};
 ghost use Rattle.accumulator.specs.Calls.{timeOf, countFine, listFine, numberFine, listJudged, pickOf};
 
 // The time of a judged model: that of the first notice.
-pub fn time_of(c: Counts, links: &[u32], axis: &[u32], times: &[u64], marks: &[u8]) -> u64
+pub(crate) fn time_of(c: Counts, links: &[u32], axis: &[u32], times: &[u64], marks: &[u8]) -> u64
     requires { ⌜ Ready c (record { links = now links; axis = now axis; times = now times; marks = now marks }) ⌝ }
     ensures { λ r. ⌜ r ≡ timeOf c (record { links = now (links .entry); axis = now (axis .entry); times = now (times .entry); marks = now (marks .entry) }) ⌝ }
 {
@@ -31,7 +31,7 @@ fn count_fine(count: usize) -> bool
 }
 
 // Are these so many words for this many accumulators?
-pub fn list_fine(count: u32, words: usize) -> bool
+pub(crate) fn list_fine(count: u32, words: usize) -> bool
     ensures { λ r. ⌜ r ≡ listFine count words ⌝ }
 {
     let n = wide(count);
@@ -43,7 +43,7 @@ pub fn list_fine(count: u32, words: usize) -> bool
 }
 
 // Is there an accumulator of this number among so many?
-pub fn number_fine(count: usize, k: u32) -> bool
+pub(crate) fn number_fine(count: usize, k: u32) -> bool
     ensures { λ r. ⌜ r ≡ numberFine count k ⌝ }
 {
     if k < 1 {
@@ -53,7 +53,7 @@ pub fn number_fine(count: usize, k: u32) -> bool
 }
 
 // Refusals 1, 2 and 3 of a list and a number that were looked at, and of the model.
-pub fn judge_list(
+pub(crate) fn judge_list(
     c: Counts,
     links: &[u32],
     axis: &[u32],
@@ -80,7 +80,7 @@ pub fn judge_list(
 }
 
 // The element that number k picks of `count` accumulators, and the model's time; or the refusal.
-pub fn pick(
+pub(crate) fn pick(
     c: Counts,
     links: &[u32],
     axis: &[u32],

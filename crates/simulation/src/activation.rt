@@ -20,7 +20,15 @@ ghost use Rattle.simulation.specs.Plain.{above};
 ghost use Rattle.simulation.specs.Promise.{sqs, Left, Answers, Place, Vain, Beside, Due};
 
 // Whether ACTIVATE has no effect.
-pub fn is_vain(axis: &[u32], m: usize, marks: &[u8], again: bool, k: u8, x: u32, y: u32) -> bool
+pub(crate) fn is_vain(
+    axis: &[u32],
+    m: usize,
+    marks: &[u8],
+    again: bool,
+    k: u8,
+    x: u32,
+    y: u32,
+) -> bool
     requires { ⌜ Sound m (now axis) ⌝ }
     requires { ⌜ x < m ⌝ }
     ensures { λ r. ⌜ Vain again k x y (now (marks .entry)) (now (axis .entry)) r ⌝ }
@@ -45,7 +53,7 @@ pub fn is_vain(axis: &[u32], m: usize, marks: &[u8], again: bool, k: u8, x: u32,
 }
 
 // The new notice's time, capped.
-pub fn due_at(times: &[u64], k: u8, y: u32, d: u64, time: u64) -> u64
+pub(crate) fn due_at(times: &[u64], k: u8, y: u32, d: u64, time: u64) -> u64
     ensures { λ r. ⌜ Due k y d time (now (times .entry)) r ⌝ }
 {
     if k == 0 {
@@ -67,7 +75,7 @@ pub fn due_at(times: &[u64], k: u8, y: u32, d: u64, time: u64) -> u64
 }
 
 // Whether the clause is before or after, and Y is idle.
-pub fn beside_idle(axis: &[u32], m: usize, k: u8, y: u32) -> bool
+pub(crate) fn beside_idle(axis: &[u32], m: usize, k: u8, y: u32) -> bool
     requires { ⌜ Sound m (now axis) ⌝ }
     requires { ⌜ y < m ⌝ }
     ensures { λ r. ⌜ Beside k y (now (axis .entry)) r ⌝ }
@@ -80,7 +88,15 @@ pub fn beside_idle(axis: &[u32], m: usize, k: u8, y: u32) -> bool
 }
 
 // Behind which place the new notice stands.
-pub fn place_for(axis: &[u32], m: usize, times: &[u64], k: u8, y: u32, time: u64, u: u64) -> u32
+pub(crate) fn place_for(
+    axis: &[u32],
+    m: usize,
+    times: &[u64],
+    k: u8,
+    y: u32,
+    time: u64,
+    u: u64,
+) -> u32
     requires { ⌜ Sound m (now axis) ⌝ }
     requires { ⌜ y < m ⌝ }
     requires { ⌜ m ≤ 1026 ⌝ }
@@ -107,7 +123,7 @@ pub fn place_for(axis: &[u32], m: usize, times: &[u64], k: u8, y: u32, time: u64
 }
 
 // X's old notice goes, and the new one stands where the clause says.
-pub fn schedule(
+pub(crate) fn schedule(
     axis: &mut [u32],
     m: usize,
     times: &mut [u64],
@@ -130,7 +146,7 @@ pub fn schedule(
 }
 
 // Activate, and again: reactivate; x and y are places, 0 for none.
-pub fn activate(
+pub(crate) fn activate(
     axis: &mut [u32],
     m: usize,
     times: &mut [u64],
@@ -164,7 +180,7 @@ pub fn activate(
 }
 
 // T where that is above 0, else 0.
-pub fn above_zero(t: i64) -> u64
+pub(crate) fn above_zero(t: i64) -> u64
     ensures { λ r. ⌜ r ≡ above t ⌝ }
 {
     if t < 0 {

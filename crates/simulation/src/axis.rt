@@ -11,7 +11,7 @@ ghost use Rattle.simulation.specs.Procedures.{found, dropOn, putOn};
 ghost use Rattle.simulation.specs.Promise.{sqs, Left, Place, Read, Stored, Lone, capped};
 
 // The time at a place, 0 past the table's end.
-pub fn due(times: &[u64], i: usize) -> u64
+pub(crate) fn due(times: &[u64], i: usize) -> u64
     ensures { λ r. ⌜ Read i (now (times .entry)) r ⌝ }
 {
     if i >= times.len() {
@@ -21,7 +21,7 @@ pub fn due(times: &[u64], i: usize) -> u64
 }
 
 // The mark at a place.
-pub fn mark_at(marks: &[u8], i: usize) -> u8
+pub(crate) fn mark_at(marks: &[u8], i: usize) -> u8
     ensures { λ r. ⌜ Read i (now (marks .entry)) r ⌝ }
 {
     if i >= marks.len() {
@@ -30,7 +30,7 @@ pub fn mark_at(marks: &[u8], i: usize) -> u8
     marks[i]
 }
 
-pub fn store(times: &mut [u64], i: usize, v: u64)
+pub(crate) fn store(times: &mut [u64], i: usize, v: u64)
     ensures { λ _. ⌜ Stored i v (now (times .entry)) (now (times .exit)) ⌝ }
 {
     if i >= times.len() {
@@ -39,7 +39,7 @@ pub fn store(times: &mut [u64], i: usize, v: u64)
     times[i] = v;
 }
 
-pub fn mark(marks: &mut [u8], i: usize)
+pub(crate) fn mark(marks: &mut [u8], i: usize)
     ensures { λ _. ⌜ Stored i 1 (now (marks .entry)) (now (marks .exit)) ⌝ }
 {
     if i >= marks.len() {
@@ -49,7 +49,7 @@ pub fn mark(marks: &mut [u8], i: usize)
 }
 
 // A sum of times, or the first number past the limit.
-pub fn plus(a: u64, b: u64) -> u64
+pub(crate) fn plus(a: u64, b: u64) -> u64
     ensures { λ r. ⌜ r ≡ capped (a + b) ⌝ }
 {
     if a > TIME_LIMIT {
@@ -62,7 +62,7 @@ pub fn plus(a: u64, b: u64) -> u64
 }
 
 // The same place, looked for from both ends at once.
-pub fn seek(axis: &[u32], m: usize, times: &[u64], w: u64) -> u32
+pub(crate) fn seek(axis: &[u32], m: usize, times: &[u64], w: u64) -> u32
     requires { ⌜ Sound m (now axis) ⌝ }
     ensures { λ r. ⌜ Place m (found m w (sqs (now (axis .entry)) (now (times .entry)))) r ⌝ }
 {
@@ -90,7 +90,7 @@ pub fn seek(axis: &[u32], m: usize, times: &[u64], w: u64) -> u32
 }
 
 // Takes x's notice away.
-pub fn drop(axis: &mut [u32], m: usize, times: &mut [u64], x: u32)
+pub(crate) fn drop(axis: &mut [u32], m: usize, times: &mut [u64], x: u32)
     requires { ⌜ Sound m (now axis) ⌝ }
     requires { ⌜ x < m ⌝ }
     ensures { λ _. ⌜ Left m (dropOn m x (sqs (now (axis .entry)) (now (times .entry)))) (now (axis .exit)) (now (times .exit)) ⌝ }
@@ -100,7 +100,7 @@ pub fn drop(axis: &mut [u32], m: usize, times: &mut [u64], x: u32)
 }
 
 // A notice for x, which has none, at time u behind the place q.
-pub fn put(axis: &mut [u32], m: usize, times: &mut [u64], x: u32, q: u32, u: u64)
+pub(crate) fn put(axis: &mut [u32], m: usize, times: &mut [u64], x: u32, q: u32, u: u64)
     requires { ⌜ Sound m (now axis) ⌝ }
     requires { ⌜ x < m ⌝ }
     requires { ⌜ q < m ⌝ }
@@ -111,7 +111,7 @@ pub fn put(axis: &mut [u32], m: usize, times: &mut [u64], x: u32, q: u32, u: u64
 }
 
 // The place of the first notice.
-pub fn first(axis: &[u32], m: usize) -> u32
+pub(crate) fn first(axis: &[u32], m: usize) -> u32
     requires { ⌜ Sound m (now axis) ⌝ }
     ensures { λ r. ⌜ Place m (getD (now (axis .entry)) (m - 1) 0) r ⌝ }
 {
@@ -119,7 +119,7 @@ pub fn first(axis: &[u32], m: usize) -> u32
 }
 
 // Whether there is no second notice.
-pub fn lone(axis: &[u32], m: usize) -> bool
+pub(crate) fn lone(axis: &[u32], m: usize) -> bool
     requires { ⌜ Sound m (now axis) ⌝ }
     ensures { λ r. ⌜ Lone m (now (axis .entry)) r ⌝ }
 {
@@ -128,7 +128,7 @@ pub fn lone(axis: &[u32], m: usize) -> bool
 }
 
 // x's notice moves: at time u behind the last whose time is below w.
-pub fn move_to(axis: &mut [u32], m: usize, times: &mut [u64], x: u32, w: u64, u: u64)
+pub(crate) fn move_to(axis: &mut [u32], m: usize, times: &mut [u64], x: u32, w: u64, u: u64)
     requires { ⌜ Sound m (now axis) ⌝ }
     requires { ⌜ x < m ⌝ }
     ensures { λ _. ⌜ Left m (putOn m x (found m w (dropOn m x (sqs (now (axis .entry)) (now (times .entry))))) u (dropOn m x (sqs (now (axis .entry)) (now (times .entry))))) (now (axis .exit)) (now (times .exit)) ⌝ }

@@ -19,7 +19,7 @@ ghost use Rattle.simulation.specs.Procedures.{heldAt, held, passivated, 
 ghost use Rattle.simulation.specs.Promise.{sqs, Left, Answers, AnswersMarked};
 
 // x's notice gets the time u; where the next is due by then, it goes behind all due by then.
-pub fn hold_at(axis: &mut [u32], m: usize, times: &mut [u64], x: u32, u: u64)
+pub(crate) fn hold_at(axis: &mut [u32], m: usize, times: &mut [u64], x: u32, u: u64)
     requires { ⌜ Sound m (now axis) ⌝ }
     requires { ⌜ x < m ⌝ }
     requires { ⌜ u ≤ limit ⌝ }
@@ -39,7 +39,7 @@ pub fn hold_at(axis: &mut [u32], m: usize, times: &mut [u64], x: u32, u: u64)
 }
 
 // Hold; d is T where that is above 0, else 0.
-pub fn hold(axis: &mut [u32], m: usize, times: &mut [u64], d: u64) -> Answer
+pub(crate) fn hold(axis: &mut [u32], m: usize, times: &mut [u64], d: u64) -> Answer
     requires { ⌜ Sound m (now axis) ⌝ }
     ensures { λ r. ⌜ Answers m (held m d (sqs (now (axis .entry)) (now (times .entry)))) (now (axis .exit)) (now (times .exit)) r ⌝ }
 {
@@ -53,7 +53,7 @@ pub fn hold(axis: &mut [u32], m: usize, times: &mut [u64], d: u64) -> Answer
 }
 
 // Passivate.
-pub fn passivate(axis: &mut [u32], m: usize, times: &mut [u64]) -> Answer
+pub(crate) fn passivate(axis: &mut [u32], m: usize, times: &mut [u64]) -> Answer
     requires { ⌜ Sound m (now axis) ⌝ }
     ensures { λ r. ⌜ Answers m (passivated m (sqs (now (axis .entry)) (now (times .entry)))) (now (axis .exit)) (now (times .exit)) r ⌝ }
 {
@@ -66,7 +66,7 @@ pub fn passivate(axis: &mut [u32], m: usize, times: &mut [u64]) -> Answer
 }
 
 // Cancel.
-pub fn cancel(axis: &mut [u32], m: usize, times: &mut [u64], x: u32) -> Answer
+pub(crate) fn cancel(axis: &mut [u32], m: usize, times: &mut [u64], x: u32) -> Answer
     requires { ⌜ Sound m (now axis) ⌝ }
     requires { ⌜ x < m ⌝ }
     ensures { λ r. ⌜ Answers m (cancelled m x (sqs (now (axis .entry)) (now (times .entry)))) (now (axis .exit)) (now (times .exit)) r ⌝ }
@@ -83,7 +83,7 @@ pub fn cancel(axis: &mut [u32], m: usize, times: &mut [u64], x: u32) -> Answer
 }
 
 // Finish: current is marked terminated, then passivated.
-pub fn finish(axis: &mut [u32], m: usize, times: &mut [u64], marks: &mut [u8]) -> Answer
+pub(crate) fn finish(axis: &mut [u32], m: usize, times: &mut [u64], marks: &mut [u8]) -> Answer
     requires { ⌜ Sound m (now axis) ⌝ }
     ensures { λ r. ⌜ AnswersMarked m (passivated m (sqs (now (axis .entry)) (now (times .entry)))) (finishedMarks m (now (marks .entry)) (sqs (now (axis .entry)) (now (times .entry)))) (now (axis .exit)) (now (times .exit)) (now (marks .exit)) r ⌝ }
 {
