@@ -24,7 +24,7 @@ use Rattle.model.specs.Reading.{Timed, noticesOf, places-of, length-of, 
 
 -- ---- the sets: the heads 1 .. H, and the links H + 1 .. m - 1
 
-sets-layout : (m H : ℕ) → H < m → Layout m (setHead H) H 1 (H + 1) m
+pub sets-layout : (m H : ℕ) → H < m → Layout m (setHead H) H 1 (H + 1) m
 sets-layout m H l =
     record {
       head-in = λ h a. (omega (arith, a .some), omega (arith, leb-true h H (a .is)));

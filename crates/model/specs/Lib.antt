@@ -7,6 +7,7 @@ pub mod AxisJudged
 pub mod Reading
 pub mod Formed
 pub mod Only
+pub mod Once
 pub mod Verdict
 pub mod Ready
 pub mod Positions

@@ -1,4 +1,5 @@
--- The lists that tables spell are unique: the sets and the notices are equal, and the same processes are terminated.
+-- The lists that tables spell are unique: the sets and the notices are equal, and the same processes are terminated. And lists have
+-- one model's tables.
 use Prim.Native.Nat.{ℕ, _+_, _-_, _<_}
 use mathlib.Core.Path.{_≡_, sym, ap, _∙_, subst}
 use mathlib.Core.List.{List, []}
@@ -8,6 +9,7 @@ use lib.Seq.{ext-getD}
 use borrow.Author.Tests.{le-leb}
 use Rattle.ring.specs.Lists.{In}
 use Rattle.ring.specs.Spell.{spells-one}
+use Rattle.ring.specs.OneTable.{one-table}
 use Rattle.counts.specs.declared.Counts.{Counts}
 use Rattle.counts.specs.Counts.{total}
 use Rattle.model.specs.Notices.{places}
@@ -61,3 +63,11 @@ module _ (c : Counts) (t : Tables) (a b : Lists) (s : Spells c a t) (u : Spells 
         notices = notices-only;
         terminated = ended-only;
       }
+
+-- the tables are the only ones that spell the lists
+pub tables-only : (c : Counts) (l : Lists) (t u : Tables) → Spells c l t → Spells c l u → t ≡ u
+tables-only c l t u s w =
+    let m : ℕ = c .processes + 2 in
+    let e1 = one-table (total c + 1) (setHead (c .heads)) (membersOf (l .sets)) (t .links) (u .links) (s .links .spelled) (w .links .spelled) in
+    let e2 = one-table m (axisHead m) (λ h. places c (l .notices)) (t .axis) (u .axis) (s .axis) (w .axis) in
+    λ i. record { links = e1 i; axis = e2 i; times = (s .times ∙ sym (w .times)) i; marks = (s .marks ∙ sym (w .marks)) i }

@@ -77,15 +77,19 @@ module _ (m : ℕ) (isHead : ℕ → Bool) (n g lo hi : ℕ) (lay : Layout m isH
                 };
           }
 
-  pub complete : (sets : List (List ℕ)) → length sets ≡ n → Rings m isHead (λ h. getD sets (h - g) []) S P → ringsFine S P lo hi n g ≡ true
-  complete sets all r =
-      let rows : Rows m isHead S P g sets =
+  -- rings that lists spell, one row for each head
+  pub rings-rows : (sets : List (List ℕ)) → length sets ≡ n → Rings m isHead (λ h. getD sets (h - g) []) S P → Rows m isHead S P g sets
+  rings-rows sets all r =
       rows-of m isHead S P sets g
       (λ i l.
       let a : Head m isHead (g + i) = lay .in-head (g + i) (omega arith) (omega arith) in
       let q : (g + i) - g ≡ i = omega arith in
       subst (λ (j : ℕ). Row m isHead S P (g + i) (getD sets j [])) q
-      (record { head = a; chain = r .ring (g + i) a; links = λ y k. r .only (g + i) y a k })) in
+      (record { head = a; chain = r .ring (g + i) a; links = λ y k. r .only (g + i) y a k }))
+
+  pub complete : (sets : List (List ℕ)) → length sets ≡ n → Rings m isHead (λ h. getD sets (h - g) []) S P → ringsFine S P lo hi n g ≡ true
+  complete sets all r =
+      let rows : Rows m isHead S P g sets = rings-rows sets all r in
       let few : length (joined sets) ≤ length (busy S P lo (hi - lo)) =
       fits (joined sets) (busy S P lo (hi - lo)) (rows-dist m isHead S P g sets rows)
       (λ y k. let b = rows-busy m isHead S P g sets y rows k in link-busy y (b .1) (b .0)) in

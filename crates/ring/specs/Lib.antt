@@ -8,6 +8,7 @@ pub mod Rings
 pub mod Table
 pub mod Stores
 pub mod Spell
+pub mod OneTable
 pub mod Empty
 pub mod Sound
 pub mod Judge

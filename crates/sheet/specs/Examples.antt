@@ -14,7 +14,7 @@ use Rattle.sheet.specs.Accepted.{sized, sizeFine, isOperand, mayHold, fi
 
 -- "H 1, P 2, L 0, R 3; starts 1, 3; record 1 next 2, activate 3 delay 5; record 2 next 0, hold 10; record 3 next 0, into with
 -- x 65,536 and y 1"
-abbrev worked : List ℕ
+abbrev pub worked : List ℕ
 worked =
     1 ∷ 0 ∷ 0 ∷ 0 ∷ 2 ∷ 0 ∷ 0 ∷ 0 ∷ 0 ∷ 0 ∷ 0 ∷ 0 ∷ 3 ∷ 0 ∷ 0 ∷ 0
     ∷ 1 ∷ 0 ∷ 0 ∷ 0 ∷ 3 ∷ 0 ∷ 0 ∷ 0

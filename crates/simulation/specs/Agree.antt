@@ -38,12 +38,12 @@ abbrev pub withMarks : Tables → List ℕ → Tables
 withMarks t l = record { links = t .links; axis = t .axis; times = t .times; marks = l }
 
 -- refused: the number, and the tables as they were; done: the tables spell the machine's next
-abbrev pub Agrees : Counts → Tables → Result → Outcome → Type 0
+abbrev pub Agrees : Counts → Tables → Result Lists → Outcome → Type 0
 Agrees c t (refused n) o = (o .answer ≡ Refused n) × (o .left ≡ sqsOf t)
 Agrees c t (done m) o = (o .answer ≡ Done) × Spells c m (withSqs t (o .left))
 
 -- the same with marks
-abbrev pub AgreesMarked : Counts → Tables → Result → Outcome → List ℕ → Type 0
+abbrev pub AgreesMarked : Counts → Tables → Result Lists → Outcome → List ℕ → Type 0
 AgreesMarked c t (refused i) o l = (o .answer ≡ Refused i) × (o .left ≡ sqsOf t) × (l ≡ t .marks)
 AgreesMarked c t (done m) o l = (o .answer ≡ Done) × Spells c m (withMarks (withSqs t (o .left)) l)
 

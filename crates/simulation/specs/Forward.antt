@@ -25,7 +25,7 @@ use Rattle.simulation.specs.StepPromise.{clause-in}
 use Rattle.simulation.specs.AgreeEnds.{has-in, has-none}
 
 -- refused, or done at a time that is at least t
-abbrev pub Later : ℕ → Result → Type 0
+abbrev pub Later : ℕ → Result Lists → Type 0
 Later t (refused r) = Unit {0}
 Later t (done l) = t ≤ time l
 
@@ -36,11 +36,11 @@ leaving-later : (t : ℕ) (l : Lists) (ns : List Notice) → From t ns → Later
 leaving-later t l [] f = tt
 leaving-later t l (n ∷ ns) f = f .0
 
-need-later : (t : ℕ) (b : Bool) (r : Result) → Later t r → Later t (need b r)
+need-later : (t : ℕ) (b : Bool) (r : Result Lists) → Later t r → Later t (need b r)
 need-later t true r f = f
 need-later t false r f = tt
 
-upto-later : (t u : ℕ) (r : Result) → Later t r → Later t (upTo u r)
+upto-later : (t u : ℕ) (r : Result Lists) → Later t r → Later t (upTo u r)
 upto-later t u r f = test (leb u limit) (λ e. rw e f) (λ e. rw e tt)
 
 -- ---- placing keeps the notices due from t on

@@ -26,7 +26,6 @@ pub mod StepPromise
 pub mod ReadPromise
 pub mod Meaning
 pub mod QueryMeaning
-pub mod Situations
 pub mod Ties
 pub mod Forward
 pub mod Replace

@@ -37,15 +37,15 @@ use Rattle.simulation.specs.AgreeEnds.{passivate-agrees, cancel-agrees, 
 use Rattle.simulation.specs.AgreeTimed.{timed-agrees}
 
 -- the call does what the plain call does
-abbrev pub Follows : Counts → Tables → Result → After Answer → Type 0
+abbrev pub Follows : Counts → Tables → Result Lists → After Answer → Type 0
 Follows c t (refused r) a = (a .answer ≡ Refused r) × (a .tables ≡ t)
 Follows c t (done l) a = (a .answer ≡ Done) × Spells c l (a .tables)
 
-follows-sqs : (c : Counts) (t : Tables) (r : Result) (o : Outcome) → Agrees c t r o → Follows c t r (record { tables = withSqs t (o .left); answer = o .answer })
+follows-sqs : (c : Counts) (t : Tables) (r : Result Lists) (o : Outcome) → Agrees c t r o → Follows c t r (record { tables = withSqs t (o .left); answer = o .answer })
 follows-sqs c t (refused r) o g = (g .0, ap (withSqs t) (g .1))
 follows-sqs c t (done l) o g = g
 
-follows-marks : (c : Counts) (t : Tables) (r : Result) (o : Outcome) (k : List ℕ) → AgreesMarked c t r o k
+follows-marks : (c : Counts) (t : Tables) (r : Result Lists) (o : Outcome) (k : List ℕ) → AgreesMarked c t r o k
     → Follows c t r (record { tables = withMarks (withSqs t (o .left)) k; answer = o .answer })
 follows-marks c t (refused r) o k g = (g .0, λ i. withMarks (withSqs t (g .1 i)) (g .2 i))
 follows-marks c t (done l) o k g = g
@@ -108,7 +108,7 @@ module _ (c : Counts) (l : Lists) (t : Tables) (w : Sized c t) (s : Spells c l t
       let zero-place : 0 - c .heads ≡ 0 = omega arith in
       rw (g, h)
       (subst
-      (λ (r : Result). Follows c t r (record {
+      (λ (r : Result Lists). Follows c t r (record {
         tables = withSqs t (activated (half c) again k (x - c .heads) 0 (above z) (t .marks) (sqsOf t) .left);
         answer = activated (half c) again k (x - c .heads) 0 (above z) (t .marks) (sqsOf t) .answer;
       }))
@@ -134,7 +134,7 @@ module _ (c : Counts) (l : Lists) (t : Tables) (w : Sized c t) (s : Spells c l t
   finish-main : current l ≡ main c → Follows c t (finish c l) (onMarks (λ k a. finishStep c k a) t)
   finish-main q =
       let f : firstOf (half c) (sqsOf t) ≡ 1 = omega (arith, place-first, current-is, q) in
-      subst (λ (r : Result). Follows c t r (onMarks (λ k a. finishStep c k a) t)) (sym (plain-refused c l q))
+      subst (λ (r : Result Lists). Follows c t r (onMarks (λ k a. finishStep c k a) t)) (sym (plain-refused c l q))
       (subst
       (λ (o : Marked). Follows c t (refused Operand) (record {
         tables = record { links = t .links; axis = o .outcome .left .axis; times = o .outcome .left .times; marks = o .marks };
@@ -159,7 +159,7 @@ module _ (c : Counts) (l : Lists) (t : Tables) (w : Sized c t) (s : Spells c l t
   unfolding waitStep wait
   wait-lone y g q =
       rw (g, q)
-      (subst (λ (r : Result). Follows c t r (record { tables = t; answer = Refused NoNotice }))
+      (subst (λ (r : Result Lists). Follows c t r (record { tables = t; answer = Refused NoNotice }))
       (sym (lone-leaves c l t s n ns e (withSets l (precedeSets (current l) y (l .sets))) q)) (refl, refl))
 
   -- current is a link, and goes into the set of y
@@ -192,7 +192,7 @@ module _ (c : Counts) (l : Lists) (t : Tables) (w : Sized c t) (s : Spells c l t
       let a = wait-agrees c (withSets l (precedeSets (current l) y (l .sets))) u (entered y g) n ns e y l g refl in
       rw (g, q, here) (waited (wait c y l) (rw q at a))
     where
-      waited : (r : Result)
+      waited : (r : Result Lists)
           → Agrees c (record { links = preceded (total c + 1) (current l) y (t .links); axis = t .axis; times = t .times; marks = t .marks }) r
           (made (dropOn (half c) (firstOf (half c) (sqsOf t)) (sqsOf t)))
           → Follows c t r (record {

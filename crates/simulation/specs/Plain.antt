@@ -17,10 +17,10 @@ use Rattle.simset.specs.Calls.{orNone}
 use Rattle.simset.specs.Meaning.{withSets}
 use Rattle.simulation.specs.NoticeOps.{behindAll, frontAll, before, after, dropped, hasNotice, rest, first}
 
--- a call on lists is refused, or leaves lists
-pub data Result : Type 0 where
-  refused : Refusal → Result
-  done : Lists → Result
+-- a call is refused, or leaves something: lists, or the whole machine of a run
+pub data Result (A : Type 0) : Type 0 where
+  refused : Refusal → Result A
+  done : A → Result A
 
 -- "Current is the process of the first notice; time is its time"
 abbrev pub current : Lists → ℕ
@@ -36,17 +36,17 @@ abbrev pub withTerminated : Lists → List ℕ → Lists
 withTerminated l k = record { sets = l .sets; notices = l .notices; terminated = k }
 
 -- refusal 3, by the kind of an operand
-abbrev pub need : Bool → Result → Result
+abbrev pub need : Bool → Result Lists → Result Lists
 need true r = r
 need false r = refused Operand
 
 -- refusal 4: the call would leave no notice
-abbrev pub leaving : Lists → List Notice → Result
+abbrev pub leaving : Lists → List Notice → Result Lists
 leaving l [] = refused NoNotice
 leaving l (n ∷ ns) = done (withNotices l (n ∷ ns))
 
 -- refusal 5: an effective call would set a time above the limit
-abbrev pub upTo : ℕ → Result → Result
+abbrev pub upTo : ℕ → Result Lists → Result Lists
 upTo u r = if leb u limit then r else refused TimeLimit
 
 -- a number below 0 counts as 0
@@ -55,25 +55,25 @@ above (pos n) = n
 above (negsuc n) = 0
 
 -- "Hold takes out the first notice, adds t if above 0, and puts it back behind all of equal or smaller time"
-unfoldable pub hold : ℤ → Lists → Result
+unfoldable pub hold : ℤ → Lists → Result Lists
 hold t l =
     let u = time l + above t in
     upTo u (done (withNotices l (behindAll (record { who = current l; due = u }) (rest (l .notices)))))
 
 -- "Passivate deletes the first notice"
-unfoldable pub passivate : Lists → Result
+unfoldable pub passivate : Lists → Result Lists
 passivate l = leaving l (rest (l .notices))
 
 -- "wait does into for current first"
-unfoldable pub wait : Counts → ℕ → Lists → Result
+unfoldable pub wait : Counts → ℕ → Lists → Result Lists
 wait c y l = need (orNone (isHead c y) y) (leaving (withSets l (precedeSets (current l) y (l .sets))) (rest (l .notices)))
 
 -- "Cancel deletes x's notice"
-unfoldable pub cancel : Counts → ℕ → Lists → Result
+unfoldable pub cancel : Counts → ℕ → Lists → Result Lists
 cancel c x l = need (orNone (isProcess c x) x) (leaving l (dropped x (l .notices)))
 
 -- "finish marks current terminated first"; main can't finish by call
-unfoldable pub finish : Counts → Lists → Result
+unfoldable pub finish : Counts → Lists → Result Lists
 finish c l = need (not (eqb (current l) (main c))) (leaving (withTerminated l (current l ∷ l .terminated)) (rest (l .notices)))
 
 -- clauses: "0 direct, 1 at T, 2 delay T, 3 at T prior, 4 delay T prior, 5 before Y, 6 after Y"
@@ -106,15 +106,15 @@ abbrev pub timedNeed : Counts → ℕ → ℕ → ℕ → Bool
 timedNeed c k x y = leb k 6 && orNone (isProcess c x) x && (not (leb 5 k) || orNone (isProcess c y) y)
 
 -- X's new notice stands among the others' as its clause says, and X's earlier one is deleted; "time" is read before that
-unfoldable pub timed : Counts → Bool → ℕ → ℕ → ℕ → ℤ → Lists → Result
+unfoldable pub timed : Counts → Bool → ℕ → ℕ → ℕ → ℤ → Lists → Result Lists
 timed c again k x y t l =
     let u = dueFor k y t l in
     need (timedNeed c k x y)
     (if noEffect again k x y l then done l
     else upTo u (leaving l (placed k y (record { who = x; due = u }) (dropped x (l .notices)))))
 
-abbrev pub activate : Counts → ℕ → ℕ → ℕ → ℤ → Lists → Result
+abbrev pub activate : Counts → ℕ → ℕ → ℕ → ℤ → Lists → Result Lists
 activate c k x y t l = timed c false k x y t l
 
-abbrev pub reactivate : Counts → ℕ → ℕ → ℕ → ℤ → Lists → Result
+abbrev pub reactivate : Counts → ℕ → ℕ → ℕ → ℤ → Lists → Result Lists
 reactivate c k x y t l = timed c true k x y t l

@@ -36,7 +36,7 @@ abbrev pub replaced : ℕ → ℕ → ℕ → ℕ → List Notice → List Notic
 replaced k x y u ns = named x (dropped x (placed k y (record { who = 0; due = u }) ns))
 
 -- activate and reactivate in that order
-unfoldable pub timedInOrder : Counts → Bool → ℕ → ℕ → ℕ → ℤ → Lists → Result
+unfoldable pub timedInOrder : Counts → Bool → ℕ → ℕ → ℕ → ℤ → Lists → Result Lists
 timedInOrder c again k x y t l =
     let u = dueFor k y t l in
     need (timedNeed c k x y)
@@ -178,6 +178,6 @@ timed-in-order c again k x y z l o f =
 pub in-order-means : (c : Counts) (l : Lists) (t : Tables) → Sized c t → Spells c l t → (again : Bool) (k x y : ℕ) (z : ℤ)
     → Follows c t (timedInOrder c again k x y z l) (called c (onSqs (λ m a. timedStep c again k x y z m a)) t)
 in-order-means c l t w s again k x y z =
-    subst (λ (r : Result). Follows c t r (called c (onSqs (λ m a. timedStep c again k x y z m a)) t))
+    subst (λ (r : Result Lists). Follows c t r (called c (onSqs (λ m a. timedStep c again k x y z m a)) t))
     (timed-in-order c again k x y z l (s .in-order) (λ i. omega (arith, notice-process c l t s 0 i)))
     (timed-means c l t w s again k x y z)

@@ -43,7 +43,7 @@ pub record PlacedTies (k y : ℕ) (n : Notice) (old new : List Notice) : Type 0 
 
 -- the four ways of placing
 module _ (y : ℕ) (n : Notice) (ns : List Notice) where
-  is-behind : (k : ℕ) → (k ≡ 1) ⊎ (k ≡ 2) → placed k y n ns ≡ behindAll n ns
+  pub is-behind : (k : ℕ) → (k ≡ 1) ⊎ (k ≡ 2) → placed k y n ns ≡ behindAll n ns
   unfolding placed
   is-behind k (inl e) = rw e
   is-behind k (inr e) = rw e
@@ -70,8 +70,8 @@ module _ (k y : ℕ) (n : Notice) (old : List Notice) (o : InOrder old) (d : Dis
   y-on : 5 ≤ k → In y (whos ns)
   y-on l = there y (g l .1) (g l .0)
 
-  ins : k ≤ 6 → Ins n ns (placed k y n ns)
-  ins l =
+  pub placed-ins : k ≤ 6 → Ins n ns (placed k y n ns)
+  placed-ins l =
       decide k 5
       (λ e. rw (is-before y n ns k e) (before-ins y n ns (y-on (omega arith))))
       (λ n5. decide k 6
@@ -101,5 +101,5 @@ module _ (k y : ℕ) (n : Notice) (old : List Notice) (o : InOrder old) (d : Dis
             decide k 5
             (λ e. rw (is-before y n ns k e) (before-post y n ns a r))
             (λ n5. rw (is-after y n ns k (omega arith)) (after-post y n ns a r));
-        others = λ l a b f h q. ins-back n a b (ins l) (drop-back (n .who) old a b f h q);
+        others = λ l a b f h q. ins-back n a b (placed-ins l) (drop-back (n .who) old a b f h q);
       }

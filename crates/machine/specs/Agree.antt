@@ -1,0 +1,99 @@
+-- Every call on tables that spell the machine does what the machine's call does, with the same refusals.
+use Prim.Native.Nat.{ℕ}
+use mathlib.Core.Path.{_≡_, refl, sym, ap, _∙_, subst}
+use mathlib.Core.Bool.{true, false}
+use mathlib.Core.List.{List}
+use lib.IntN.{ℤ}
+use Rattle.ring.specs.Lists.{test}
+use Rattle.counts.specs.declared.Counts.{Counts}
+use Rattle.counts.specs.declared.Refusal.the-variants.{Operand}
+use Rattle.counts.specs.Counts.{isHead}
+use Rattle.model.specs.declared.answer.Answer.{Answer}
+use Rattle.model.specs.declared.answer.Answer.the-variants.{Done, Refused}
+use Rattle.model.specs.Tables.{Tables, Lists, After, Sized, Spells}
+use Rattle.model.specs.Answers.{called}
+use Rattle.simset.specs.Calls.{outStep, followStep, precedeStep, intoStep, clearStep, onLinks}
+use Rattle.simset.specs.Meaning.{Does, withSets, called-is, out-means, follow-means, precede-means, into-means, clear-means}
+use Rattle.simulation.specs.Plain.{Result, refused, done, time}
+use Rattle.simulation.specs.Plain as plain
+use Rattle.simulation.specs.Calls.{holdStep, passivateStep, cancelStep, timedStep, finishStep, waitStep, onSqs, onMarks, onSets}
+use Rattle.simulation.specs.Meaning.{Follows, hold-means, passivate-means, wait-means, cancel-means, timed-means, finish-means}
+use Rattle.accumulator.specs.declared.Updated.{Updated}
+use Rattle.accumulator.specs.declared.Updated.the-variants.{To, Refused as NotUpdated}
+use Rattle.accumulator.specs.Update.{updatedOf}
+use Rattle.accumulator.specs.Flat.{Changed, updatedIn}
+use Rattle.accumulator.specs.Triples.{flat, numbered, listed, updatedAt, flat-updated}
+use Rattle.machine.specs.Machine.{Machine}
+use Rattle.machine.specs.Calls.{SetCall, out, follow, precede, into, clear, ListCall, onSet, hold, passivate, wait, cancel, activate, ifEmpty, finish, Call, onList, accum, kindsFine, setsAfter, listsAfter, changing, storing, perform}
+use Rattle.machine.specs.OnTables.{linksAfter, tablesAfter, Carried, carriedOut}
+use Rattle.machine.specs.Reading.{time-at}
+
+-- ---- the calls on lists
+
+module _ (c : Counts) (l : Lists) (t : Tables) (w : Sized c t) (s : Spells c l t) where
+  -- what holds of the public call holds of the step, which judges nothing
+  by-call : (r : Result Lists) (f : Tables → After Answer) → Follows c t r (called c f t) → Follows c t r (f t)
+  by-call r f a = subst (Follows c t r) (called-is c l t w s f) a
+
+  set-done : (k : SetCall) → kindsFine c k ≡ true → Follows c t (done (withSets l (setsAfter k (l .sets)))) (onLinks (linksAfter c k) t)
+  set-done k e = go k e
+    where
+      does : (sets : List (List ℕ)) (f : Tables → After Answer) → Does c l sets (called c f t) → Follows c t (done (withSets l sets)) (f t)
+      does sets f d = by-call (done (withSets l sets)) f (d .answer, d .tables)
+
+      go : (k : SetCall) → kindsFine c k ≡ true → Follows c t (done (withSets l (setsAfter k (l .sets)))) (onLinks (linksAfter c k) t)
+      go (out x) e = does _ (onLinks (outStep c x)) (out-means c l t w s x e)
+      go (follow x y) e = does _ (onLinks (followStep c x y)) (follow-means c l t w s x y e)
+      go (precede x y) e = does _ (onLinks (precedeStep c x y)) (precede-means c l t w s x y e)
+      go (into x y) e = does _ (onLinks (intoStep c x y)) (into-means c l t w s x y e)
+      go (clear x) e = does _ (onLinks (clearStep c x)) (clear-means c l t w s x e)
+
+  set-refused : (k : SetCall) → kindsFine c k ≡ false → Follows c t (refused Operand) (onLinks (linksAfter c k) t)
+  unfolding outStep followStep precedeStep intoStep clearStep
+  set-refused (out x) e = rw e (refl, refl)
+  set-refused (follow x y) e = rw e (refl, refl)
+  set-refused (precede x y) e = rw e (refl, refl)
+  set-refused (into x y) e = rw e (refl, refl)
+  set-refused (clear x) e = rw e (refl, refl)
+
+  pub lists-follow : (k : ListCall) → Follows c t (listsAfter c k l) (tablesAfter c k t)
+  unfolding listsAfter tablesAfter
+  lists-follow (onSet k) = test (kindsFine c k) (λ e. rw e (set-done k e)) (λ e. rw e (set-refused k e))
+  lists-follow (hold z) = by-call (plain.hold z l) (onSqs (λ m a. holdStep c z a)) (hold-means c l t w s z)
+  lists-follow passivate = by-call (plain.passivate l) (onSqs (λ m a. passivateStep c a)) (passivate-means c l t w s)
+  lists-follow (wait y) = by-call (plain.wait c y l) (onSets (λ k a. waitStep c y k a)) (wait-means c l t w s y)
+  lists-follow (cancel x) = by-call (plain.cancel c x l) (onSqs (λ m a. cancelStep c x a)) (cancel-means c l t w s x)
+  lists-follow (activate again k x y z) =
+      by-call (plain.timed c again k x y z l) (onSqs (λ m a. timedStep c again k x y z m a)) (timed-means c l t w s again k x y z)
+  lists-follow (ifEmpty x) = test (isHead c x) (λ e. rw e (refl, s)) (λ e. rw e (refl, refl))
+  lists-follow finish = by-call (plain.finish c l) (onMarks (λ k a. finishStep c k a)) (finish-means c l t w s)
+
+-- ---- the calls on the machine
+
+-- refused: the refusal, and every word as it was; done: the tables spell the machine's lists, the words are its triples'
+abbrev pub FollowsRun : Counts → Tables → List ℤ → Result Machine → Carried → Type 0
+FollowsRun c t v (refused r) a = (a .answer ≡ Refused r) × (a .tables ≡ t) × (a .words ≡ v)
+FollowsRun c t v (done m) a = (a .answer ≡ Done) × Spells c (m .lists) (a .tables) × (a .words ≡ flat (m .triples))
+
+module _ (c : Counts) (m : Machine) (t : Tables) (w : Sized c t) (s : Spells c (m .lists) t) where
+  abbrev words : List ℤ
+  words = flat (m .triples)
+
+  pub perform-follows : (k : Call) → FollowsRun c t words (perform c k m) (carriedOut c k t words)
+  unfolding perform carriedOut updatedAt
+  perform-follows (onList k) = go (listsAfter c k (m .lists)) (lists-follow c (m .lists) t w s k)
+    where
+      go : (r : Result Lists) → Follows c t r (tablesAfter c k t)
+          → FollowsRun c t words (changing m r) (record { tables = tablesAfter c k t .tables; words = words; answer = tablesAfter c k t .answer })
+      go (refused r) a = (a .0, a .1, refl)
+      go (done l) a = (a .0, a .1, refl)
+  perform-follows (accum k d) =
+      subst (λ (u : Changed). FollowsRun c t words (storing m k (updatedOf (numbered k (m .triples)) (time (m .lists)) d)) (record { tables = t; words = u .words; answer = u .answer }))
+      (sym (ap (λ (now : ℕ). updatedIn k now d words) (time-at c (m .lists) t w s) ∙ flat-updated k (time (m .lists)) d (m .triples)))
+      (go (updatedOf (numbered k (m .triples)) (time (m .lists)) d))
+    where
+      go : (u : Updated)
+          → FollowsRun c t words (storing m k u)
+          (record { tables = t; words = flat (listed u k (m .triples) .list); answer = listed u k (m .triples) .answer })
+      go (To v) = (refl, s, refl)
+      go (NotUpdated q) = (refl, refl, refl)

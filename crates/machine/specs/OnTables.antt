@@ -1,0 +1,62 @@
+-- The calls of a step on a run's tables: the published procedures on the model's, accum on the flat list of words.
+use Prim.Native.Nat.{ℕ, _-_}
+use mathlib.Core.List.{List}
+use lib.Dec.{ltb, eqb}
+use lib.IntN.{ℤ}
+use Rattle.ring.specs.Lists.{if_then_else_}
+use Rattle.counts.specs.declared.Counts.{Counts}
+use Rattle.counts.specs.Counts.{isHead, linkageAt}
+use Rattle.model.specs.declared.answer.Answer.{Answer}
+use Rattle.model.specs.declared.answer.Answer.the-variants.{Done}
+use Rattle.model.specs.Tables.{Tables, After}
+use Rattle.simset.specs.Procedures as sets
+use Rattle.simset.specs.Calls.{Linked, telling, outStep, followStep, precedeStep, intoStep, clearStep, onLinks}
+use Rattle.simulation.specs.Procedures.{firstOf, timeOf}
+use Rattle.simulation.specs.Calls.{half, sqsOf, holdStep, passivateStep, cancelStep, timedStep, finishStep, waitStep, onSqs, onMarks, onSets}
+use Rattle.accumulator.specs.Flat.{updatedIn}
+use Rattle.machine.specs.Calls.{SetCall, out, follow, precede, into, clear, ListCall, onSet, hold, passivate, wait, cancel, activate, ifEmpty, finish, Call, onList, accum}
+
+-- ---- reading
+
+-- current, time, and the first member of head h
+abbrev pub currentAt : Counts → Tables → ℕ
+currentAt c t = linkageAt c (firstOf (half c) (sqsOf t))
+
+abbrev pub timeAt : Counts → Tables → ℕ
+timeAt c t = timeOf (half c) (sqsOf t)
+
+abbrev pub firstAt : Counts → Tables → ℕ → ℕ
+firstAt c t h = sets.sucOf (c .heads) h (t .links)
+
+-- "0 to N, or 65,536 for current, or 65,536 + h .. for the first member of head h (none if empty)"
+unfoldable pub operandAt : Counts → Tables → ℕ → ℕ
+operandAt c t v = if ltb v 65536 then v else if eqb v 65536 then currentAt c t else firstAt c t (v - 65536)
+
+-- ---- calling
+
+abbrev pub linksAfter : Counts → SetCall → List ℕ → Linked
+linksAfter c (out x) t = outStep c x t
+linksAfter c (follow x y) t = followStep c x y t
+linksAfter c (precede x y) t = precedeStep c x y t
+linksAfter c (into x y) t = intoStep c x y t
+linksAfter c (clear x) t = clearStep c x t
+
+unfoldable pub tablesAfter : Counts → ListCall → Tables → After Answer
+tablesAfter c (onSet k) t = onLinks (linksAfter c k) t
+tablesAfter c (hold z) t = onSqs (λ m a. holdStep c z a) t
+tablesAfter c passivate t = onSqs (λ m a. passivateStep c a) t
+tablesAfter c (wait y) t = onSets (λ k a. waitStep c y k a) t
+tablesAfter c (cancel x) t = onSqs (λ m a. cancelStep c x a) t
+tablesAfter c (activate again k x y z) t = onSqs (λ m a. timedStep c again k x y z m a) t
+tablesAfter c (ifEmpty x) t = record { tables = t; answer = telling (isHead c x) Done }
+tablesAfter c finish t = onMarks (λ k a. finishStep c k a) t
+
+-- the model's tables and the accumulators' words after a call, and its answer
+pub record Carried : Type 0 where
+  pub tables : Tables
+  pub words : List ℤ
+  pub answer : Answer
+
+unfoldable pub carriedOut : Counts → Call → Tables → List ℤ → Carried
+carriedOut c (onList k) t w = let a = tablesAfter c k t in record { tables = a .tables; words = w; answer = a .answer }
+carriedOut c (accum k d) t w = let u = updatedIn k (timeAt c t) d w in record { tables = t; words = u .words; answer = u .answer }

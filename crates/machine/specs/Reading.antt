@@ -1,0 +1,68 @@
+-- Reading tables that spell the machine's lists: current, time, first members and so every operand are the machine's.
+use Prim.Native.Nat.{ℕ, _+_, _-_, _<_, _≤_}
+use mathlib.Core.Path.{_≡_, refl, sym, ap, _∙_}
+use mathlib.Core.Logic.{inl}
+use mathlib.Core.Bool.{true}
+use mathlib.Core.List.{List, [], _∷_}
+use native.Mathlib.Omega.{arith}
+use lib.Dec.{ltb, eqb}
+use borrow.Author.Tests.{leb-true, leb-false, ltb-false, eqb-false}
+use Rattle.ring.specs.Lists.{In, test}
+use Rattle.ring.specs.Chain.{Chain}
+use Rattle.ring.specs.Rings.{Head}
+use Rattle.ring.specs.Stores.{sucs, pres, suc-at}
+use Rattle.counts.specs.declared.Counts.{Counts}
+use Rattle.counts.specs.Counts.{total, isHead}
+use Rattle.model.specs.declared.answer.Answer.the-variants.{Linkage, Number}
+use Rattle.model.specs.Tables.{Tables, Lists, Sized, setHead, membersOf, SpellsSets, Spells}
+use Rattle.simset.specs.Procedures as procedures
+use Rattle.simset.specs.Sets.{noLinks}
+use Rattle.simset.specs.Laws.{set-head}
+use Rattle.simset.specs.QueryLaws.{or-link, or-none, empty-says}
+use Rattle.simset.specs.Meaning.{asked-is, head-of}
+use Rattle.simulation.specs.Plain.{current, time}
+use Rattle.simulation.specs.Calls.{sqsOf, currentTold, timeTold}
+use Rattle.simulation.specs.QueryMeaning.{current-means, time-means}
+use Rattle.sheet.specs.Accepted.{isOperand}
+use Rattle.sheet.specs.Fields.{operand-high}
+use Rattle.machine.specs.Steps.{firstIn, operandOf}
+use Rattle.machine.specs.OnTables.{currentAt, timeAt, firstAt, operandAt}
+
+-- the successor of a head is its first member, none where it has none
+first-of : (m H : ℕ) (sets : List (List ℕ)) (t : List ℕ) → SpellsSets m H sets t → (h : ℕ) → Head m (setHead H) h → procedures.sucOf H h t ≡ firstIn (membersOf sets h)
+first-of m H sets t s h a = go (membersOf sets h) (s .spelled .rings .ring h a) (λ y i. leb-false y H (s .spelled .rings .only h y a i .isn't))
+  where
+    go : (l : List ℕ) → Chain (sucs m t) (pres m t) h l h → ((y : ℕ) → In y l → H < y) → procedures.sucOf H h t ≡ firstIn l
+    go [] c f = ap (procedures.linkOr H) (sym (suc-at m t h (a .within)) ∙ c .next) ∙ or-none H h (leb-true h H (a .is))
+    go (z ∷ l) c f = ap (procedures.linkOr H) (sym (suc-at m t h (a .within)) ∙ c .0 .next) ∙ or-link H z (f z (inl refl))
+
+module _ (c : Counts) (l : Lists) (t : Tables) (w : Sized c t) (s : Spells c l t) where
+  pub current-at : currentAt c t ≡ current l
+  unfolding currentTold
+  current-at =
+      let e : Linkage (currentAt c t) ≡ Linkage (current l) = sym (asked-is c l t w s (λ k. currentTold c (sqsOf k))) ∙ current-means c l t w s in cc
+
+  pub time-at : timeAt c t ≡ time l
+  unfolding timeTold
+  time-at =
+      let e : Number (timeAt c t) ≡ Number (time l) = sym (asked-is c l t w s (λ k. timeTold c (sqsOf k))) ∙ time-means c l t w s in cc
+
+  pub first-at : (h : ℕ) → 1 ≤ h → h ≤ c .heads → firstAt c t h ≡ firstIn (membersOf (l .sets) h)
+  first-at h a b = first-of (total c + 1) (c .heads) (l .sets) (t .links) (s .links) h (set-head (total c + 1) (c .heads) h a b (omega arith))
+
+  pub operand-at : (v : ℕ) → isOperand c v ≡ true → operandAt c t v ≡ operandOf l v
+  unfolding operandAt operandOf
+  operand-at v o =
+      test (ltb v 65536)
+      (λ e. rw e)
+      (λ e. test (eqb v 65536)
+      (λ q. rw (e, q) current-at)
+      (λ q. let h = operand-high c (w .allowed) v o (above v (ltb-false v 65536 e) (eqb-false v 65536 q)) in
+      rw (e, q) (first-at (v - 65536) (h .0) (h .1))))
+    where
+      above : (v : ℕ) → 65536 ≤ v → (v ≡ 65536 → ⊥) → 65536 < v
+      above v a b = omega arith
+
+  -- whether head x is empty
+  pub empty-at : (x : ℕ) → isHead c x ≡ true → procedures.emptyOf x (t .links) ≡ noLinks (membersOf (l .sets) x)
+  empty-at x e = empty-says (total c + 1) (c .heads) (l .sets) (t .links) (s .links) (omega arith) x (head-of c x e)

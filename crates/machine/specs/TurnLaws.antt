@@ -1,0 +1,181 @@
+-- What a turn does, whatever its call: the lists stay those of well-formed tables, the notices move as History says, time does not go
+-- back, positions stay in the sheet, and accumulators as required.
+use Prim.Native.Nat.{ℕ, _-_, _≤_}
+use mathlib.Core.Path.{_≡_, refl, ap, _∙_, subst}
+use mathlib.Core.Bool.{Bool, true, false, _&&_}
+use mathlib.Core.List.{List}
+use native.Mathlib.Omega.{arith}
+use lib.Dec.{eqb}
+use lib.ListN.{length, getD, set, length-set}
+use lib.Seq.{getD-set-same, getD-set-other, set-out}
+use borrow.Author.Tests.{eqb-true, eqb-false}
+use Rattle.ring.specs.Lists.{if_then_else_, decide, below, test}
+use Rattle.counts.specs.declared.Counts.{Counts}
+use Rattle.counts.specs.Counts.{Allowed, main}
+use Rattle.model.specs.Tables.{Tables, Lists, Spells}
+use Rattle.model.specs.Formed.{notice-each}
+use Rattle.model.specs.Once.{spelled-sized}
+use Rattle.simulation.specs.Plain.{Result, refused, done, current, time}
+use Rattle.simulation.specs.Meaning.{Follows, split}
+use Rattle.simulation.specs.Forward.{Later}
+use Rattle.accumulator.specs.declared.Updated.{Updated}
+use Rattle.accumulator.specs.declared.Updated.the-variants.{To, Refused as NotUpdated}
+use Rattle.accumulator.specs.Update.{updatedOf}
+use Rattle.accumulator.specs.Keeps.{zero-accumulator, required-later}
+use Rattle.accumulator.specs.Triples.{numbered, listed, updatedAt}
+use Rattle.accumulator.specs.Runs.{Each, each-kept}
+use Rattle.sheet.specs.declared.header.Header.{Header}
+use Rattle.sheet.specs.declared.records.Record.{Record}
+use Rattle.sheet.specs.Sheet.{Sheet}
+use Rattle.sheet.specs.Fields.{Ranged}
+use Rattle.machine.specs.declared.End.{End}
+use Rattle.machine.specs.declared.End.the-variants.{Finished, Refused}
+use Rattle.machine.specs.Machine.{Machine, withPosition}
+use Rattle.machine.specs.Calls.{Call, onList, accum, listsAfter, changing, storing, perform}
+use Rattle.machine.specs.Steps.{recordOf, recordNow, nextOf, callNow, nextNow, lineNow, Turn, ended, stepped, moving, step}
+use Rattle.machine.specs.Run.{atEnd, turn, onward}
+use Rattle.machine.specs.History.{Stepwise, placing, placingOf, listPlacing, ifStepped}
+use Rattle.machine.specs.StepLaws.{stepwise-same}
+use Rattle.machine.specs.CallLaws.{Notices, call-notices, call-forward}
+use Rattle.machine.specs.OnTables.{tablesAfter}
+use Rattle.machine.specs.Agree.{lists-follow}
+use Rattle.machine.specs.Kept.{headerIs, InRange}
+
+-- the lists are those of some well-formed tables
+abbrev pub Spelled : Counts → Lists → Type 0
+Spelled c l = (t : Tables) × Spells c l t
+
+-- refused, or done with a machine of which Q holds
+abbrev pub Then : (Machine → Type 0) → Result Machine → Type 0
+Then Q (refused r) = Unit {0}
+Then Q (done m) = Q m
+
+-- ---- a call
+
+pub record Performed (c : Counts) (k : Call) (m n : Machine) : Type 0 where
+  pub spelled : Spelled c (n .lists)
+  pub notices : Stepwise (placingOf k (m .lists)) (m .lists .notices) (n .lists .notices)
+  pub forward : time (m .lists) ≤ time (n .lists)
+  pub positions : n .positions ≡ m .positions
+  pub triples-all : length (n .triples) ≡ length (m .triples)
+  pub required : Each (n .triples) (time (n .lists))
+
+module _ (c : Counts) (a : Allowed c) (m : Machine) (t : Tables) (s : Spells c (m .lists) t) (q : Each (m .triples) (time (m .lists))) where
+  abbrev l : Lists
+  l = m .lists
+
+  perform-laws : (k : Call) → Then (Performed c k m) (perform c k m)
+  unfolding perform updatedAt
+  perform-laws (onList k) =
+      let f = split (l .notices) (s .some) in
+      go (listsAfter c k l) (lists-follow c l t (spelled-sized c l t s a) s k)
+      (call-notices c l (f .0) (f .1) (f .2) (s .in-order) (notice-each c l t s) k)
+      (call-forward c l (f .0) (f .1) (f .2) (s .in-order) (notice-each c l t s) k)
+    where
+      go : (r : Result Lists) → Follows c t r (tablesAfter c k t) → Notices (listPlacing k l) (l .notices) r → Later (time l) r
+          → Then (Performed c (onList k) m) (changing m r)
+      go (refused r) f g h = tt
+      go (done j) f g h =
+          record {
+            spelled = (tablesAfter c k t .tables, f .1);
+            notices = g;
+            forward = h;
+            positions = refl;
+            triples-all = refl;
+            required = λ i. required-later (getD (m .triples) i zero-accumulator) (time l) (time j) h (q i);
+          }
+  perform-laws (accum k d) =
+      go (updatedOf (numbered k (m .triples)) (time l) d) (each-kept k (time l) (time l) d (m .triples) (omega arith) q)
+    where
+      go : (u : Updated) → Each (listed u k (m .triples) .list) (time l) → Then (Performed c (accum k d) m) (storing m k u)
+      go (To v) g =
+          record {
+            spelled = (t, s);
+            notices = stepwise-same (l .notices);
+            forward = omega arith;
+            positions = refl;
+            triples-all = length-set (m .triples) (k - 1) v;
+            required = g;
+          }
+      go (NotUpdated r) g = tt
+
+-- ---- a turn
+
+-- it comes to an end, or to what its call leaves
+pub turn-cases : (s : Sheet) (m : Machine) (Q : Turn → Type 0) → ((e : End) → Q (ended e))
+    → Then (λ k. Q (stepped (lineNow s m) (withPosition (s .counts) k (current (m .lists)) (nextNow s m)))) (perform (s .counts) (callNow s m) m)
+    → Q (turn s 1 m)
+unfolding turn step
+turn-cases s m Q f g = test (atEnd s m) (λ e. rw e (f Finished)) (λ e. rw e (go (perform (s .counts) (callNow s m) m) g))
+  where
+    go : (r : Result Machine) → Then (λ k. Q (stepped (lineNow s m) (withPosition (s .counts) k (current (m .lists)) (nextNow s m)))) r → Q (moving s m r)
+    go (refused r) h = f (Refused r)
+    go (done k) h = h
+
+-- what a run needs to go on
+pub record Going (s : Sheet) (m : Machine) : Type 0 where
+  pub spelled : Spelled (s .counts) (m .lists)
+  pub positions-all : length (m .positions) ≡ s .counts .processes
+  pub positions-in : (i : ℕ) → getD (m .positions) i 0 ≤ length (s .records)
+  pub triples-all : length (m .triples) ≡ 64
+  pub required : Each (m .triples) (time (m .lists))
+
+-- a process moves to a record of the sheet, or to 0
+next-of : (h : Header) (q : Record) (none : Bool) → Ranged h q → nextOf q none ≤ h .records
+unfolding nextOf
+next-of h q none r = go (eqb (q .operation) 12) refl none
+  where
+    go : (b : Bool) → eqb (q .operation) 12 ≡ b → (d : Bool) → (if b && d then q .y else q .next) ≤ h .records
+    go true e true = r .y-record (eqb-true (q .operation) 12 e)
+    go true e false = r .next-in
+    go false e d = r .next-in
+
+set-in : (l : List ℕ) (j v R : ℕ) → ((i : ℕ) → getD l i 0 ≤ R) → v ≤ R → (i : ℕ) → getD (set l j v) i 0 ≤ R
+set-in l j v R f b i =
+    decide i j
+    (λ e. below i (length l)
+    (λ k. subst (λ (n : ℕ). getD (set l n v) i 0 ≤ R) e (rw (getD-set-same l i v 0 k) b))
+    (λ k. subst (λ (n : ℕ). getD (set l n v) i 0 ≤ R) e (rw (set-out l i v k) (f i))))
+    (λ n. rw (getD-set-other l j i v 0 n) (f i))
+
+then-so : (P Q : Machine → Type 0) (r : Result Machine) → ((k : Machine) → P k → Q k) → Then P r → Then Q r
+then-so P Q (refused r) f g = tt
+then-so P Q (done k) f g = f k g
+
+module _ (s : Sheet) (r : InRange s) (m : Machine) (g : Going s m) where
+  its-call : Then (Performed (s .counts) (callNow s m) m) (perform (s .counts) (callNow s m) m)
+  its-call = perform-laws (s .counts) (r .allowed) m (g .spelled .0) (g .spelled .1) (g .required) (callNow s m)
+
+  -- what holds at an end and after every call of this kind holds after the turn
+  by-call : (Q : Turn → Type 0) → ((e : End) → Q (ended e))
+      → ((k : Machine) → Performed (s .counts) (callNow s m) m k → Q (stepped (lineNow s m) (withPosition (s .counts) k (current (m .lists)) (nextNow s m))))
+      → Q (turn s 1 m)
+  by-call Q f h = turn-cases s m Q f (then-so _ _ (perform (s .counts) (callNow s m) m) h its-call)
+
+  next-in : nextNow s m ≤ length (s .records)
+  unfolding nextNow
+  next-in =
+      test (eqb (recordNow s m) 0)
+      (λ z. rw z (omega arith))
+      (λ z. rw z (next-of (headerIs s) (recordOf s (recordNow s m)) _
+      (r .record-in (recordNow s m) (omega (arith, eqb-false (recordNow s m) 0 z)) (g .positions-in (current (m .lists) - main (s .counts))))))
+
+  pub turn-going : Going s (onward m (turn s 1 m))
+  turn-going =
+      by-call (λ t. Going s (onward m t)) (λ e. g)
+      (λ k p. record {
+        spelled = p .spelled;
+        positions-all = length-set (k .positions) _ _ ∙ ap length (p .positions) ∙ g .positions-all;
+        positions-in = set-in (k .positions) _ _ _ (rw (p .positions) (g .positions-in)) next-in;
+        triples-all = p .triples-all ∙ g .triples-all;
+        required = p .required;
+      })
+
+  pub turn-stepwise : Stepwise (placing s m) (m .lists .notices) (onward m (turn s 1 m) .lists .notices)
+  unfolding placing
+  turn-stepwise =
+      by-call (λ t. Stepwise (ifStepped t (placingOf (callNow s m) (m .lists))) (m .lists .notices) (onward m t .lists .notices))
+      (λ e. stepwise-same (m .lists .notices)) (λ k p. p .notices)
+
+  pub turn-forward : time (m .lists) ≤ time (onward m (turn s 1 m) .lists)
+  turn-forward = by-call (λ t. time (m .lists) ≤ time (onward m t .lists)) (λ e. omega arith) (λ k p. p .forward)
