@@ -1,8 +1,9 @@
 -- The calls of a step on a run's tables: the published procedures on the model's, accum on the flat list of words.
-use Prim.Native.Nat.{ℕ, _-_}
+use Prim.Native.Nat.{ℕ, _+_, _-_}
 use mathlib.Core.List.{List}
 use lib.Dec.{ltb, eqb}
 use lib.IntN.{ℤ}
+use lib.ListN.{getD}
 use Rattle.ring.specs.Lists.{if_then_else_}
 use Rattle.counts.specs.declared.Counts.{Counts}
 use Rattle.counts.specs.Counts.{isHead, linkageAt}
@@ -11,26 +12,29 @@ use Rattle.model.specs.declared.answer.Answer.the-variants.{Done}
 use Rattle.model.specs.Tables.{Tables, After}
 use Rattle.simset.specs.Procedures as sets
 use Rattle.simset.specs.Calls.{Linked, telling, outStep, followStep, precedeStep, intoStep, clearStep, onLinks}
-use Rattle.simulation.specs.Procedures.{firstOf, timeOf}
-use Rattle.simulation.specs.Calls.{half, sqsOf, holdStep, passivateStep, cancelStep, timedStep, finishStep, waitStep, onSqs, onMarks, onSets}
+use Rattle.simulation.specs.Calls.{holdStep, passivateStep, cancelStep, timedStep, finishStep, waitStep, onSqs, onMarks, onSets}
 use Rattle.accumulator.specs.Flat.{updatedIn}
 use Rattle.machine.specs.Calls.{SetCall, out, follow, precede, into, clear, ListCall, onSet, hold, passivate, wait, cancel, activate, ifEmpty, finish, Call, onList, accum}
 
 -- ---- reading
 
+-- current's place in the axis: the head's successor
+abbrev pub placeNow : Counts → List ℕ → ℕ
+placeNow c axis = getD axis (c .processes + 1) 0
+
 -- current, time, and the first member of head h
-abbrev pub currentAt : Counts → Tables → ℕ
-currentAt c t = linkageAt c (firstOf (half c) (sqsOf t))
+abbrev pub currentAt : Counts → List ℕ → ℕ
+currentAt c axis = linkageAt c (placeNow c axis)
 
-abbrev pub timeAt : Counts → Tables → ℕ
-timeAt c t = timeOf (half c) (sqsOf t)
+abbrev pub timeAt : Counts → List ℕ → List ℕ → ℕ
+timeAt c axis times = getD times (placeNow c axis) 0
 
-abbrev pub firstAt : Counts → Tables → ℕ → ℕ
-firstAt c t h = sets.sucOf (c .heads) h (t .links)
+abbrev pub firstAt : Counts → List ℕ → ℕ → ℕ
+firstAt c links h = sets.sucOf (c .heads) h links
 
 -- "0 to N, or 65,536 for current, or 65,536 + h .. for the first member of head h (none if empty)"
-unfoldable pub operandAt : Counts → Tables → ℕ → ℕ
-operandAt c t v = if ltb v 65536 then v else if eqb v 65536 then currentAt c t else firstAt c t (v - 65536)
+unfoldable pub operandAt : Counts → List ℕ → List ℕ → ℕ → ℕ
+operandAt c links axis v = if ltb v 65536 then v else if eqb v 65536 then currentAt c axis else firstAt c links (v - 65536)
 
 -- ---- calling
 
@@ -59,4 +63,4 @@ pub record Carried : Type 0 where
 
 unfoldable pub carriedOut : Counts → Call → Tables → List ℤ → Carried
 carriedOut c (onList k) t w = let a = tablesAfter c k t in record { tables = a .tables; words = w; answer = a .answer }
-carriedOut c (accum k d) t w = let u = updatedIn k (timeAt c t) d w in record { tables = t; words = u .words; answer = u .answer }
+carriedOut c (accum k d) t w = let u = updatedIn k (timeAt c (t .axis) (t .times)) d w in record { tables = t; words = u .words; answer = u .answer }

@@ -6,13 +6,14 @@ use mathlib.Core.Bool.{true}
 use mathlib.Core.List.{List, [], _∷_}
 use native.Mathlib.Omega.{arith}
 use lib.Dec.{ltb, eqb}
-use borrow.Author.Tests.{leb-true, leb-false, ltb-false, eqb-false}
+use lib.ListN.{getD}
+use borrow.Author.Tests.{leb-true, leb-false, ltb-false, eqb-false, lt-ltb}
 use Rattle.ring.specs.Lists.{In, test}
 use Rattle.ring.specs.Chain.{Chain}
 use Rattle.ring.specs.Rings.{Head}
 use Rattle.ring.specs.Stores.{sucs, pres, suc-at}
 use Rattle.counts.specs.declared.Counts.{Counts}
-use Rattle.counts.specs.Counts.{total, isHead}
+use Rattle.counts.specs.Counts.{total, isHead, linkageAt}
 use Rattle.model.specs.declared.answer.Answer.the-variants.{Linkage, Number}
 use Rattle.model.specs.Tables.{Tables, Lists, Sized, setHead, membersOf, SpellsSets, Spells}
 use Rattle.simset.specs.Procedures as procedures
@@ -21,12 +22,13 @@ use Rattle.simset.specs.Laws.{set-head}
 use Rattle.simset.specs.QueryLaws.{or-link, or-none, empty-says}
 use Rattle.simset.specs.Meaning.{asked-is, head-of}
 use Rattle.simulation.specs.Plain.{current, time}
-use Rattle.simulation.specs.Calls.{sqsOf, currentTold, timeTold}
+use Rattle.simulation.specs.Calls.{half, sqsOf, currentTold, timeTold}
+use Rattle.simulation.specs.Procedures.{firstOf, timeOf}
 use Rattle.simulation.specs.QueryMeaning.{current-means, time-means}
 use Rattle.sheet.specs.Accepted.{isOperand}
 use Rattle.sheet.specs.Fields.{operand-high}
 use Rattle.machine.specs.Steps.{firstIn, operandOf}
-use Rattle.machine.specs.OnTables.{currentAt, timeAt, firstAt, operandAt}
+use Rattle.machine.specs.OnTables.{placeNow, currentAt, timeAt, firstAt, operandAt}
 
 -- the successor of a head is its first member, none where it has none
 first-of : (m H : ℕ) (sets : List (List ℕ)) (t : List ℕ) → SpellsSets m H sets t → (h : ℕ) → Head m (setHead H) h → procedures.sucOf H h t ≡ firstIn (membersOf sets h)
@@ -37,20 +39,31 @@ first-of m H sets t s h a = go (membersOf sets h) (s .spelled .rings .ring h a) 
     go (z ∷ l) c f = ap (procedures.linkOr H) (sym (suc-at m t h (a .within)) ∙ c .0 .next) ∙ or-link H z (f z (inl refl))
 
 module _ (c : Counts) (l : Lists) (t : Tables) (w : Sized c t) (s : Spells c l t) where
-  pub current-at : currentAt c t ≡ current l
+  place : placeNow c (t .axis) ≡ firstOf (half c) (sqsOf t)
+  place = ap (λ (i : ℕ). getD (t .axis) i 0) (omega arith)
+
+  pub current-at : currentAt c (t .axis) ≡ current l
   unfolding currentTold
   current-at =
-      let e : Linkage (currentAt c t) ≡ Linkage (current l) = sym (asked-is c l t w s (λ k. currentTold c (sqsOf k))) ∙ current-means c l t w s in cc
+      let e : Linkage (linkageAt c (firstOf (half c) (sqsOf t))) ≡ Linkage (current l) =
+      sym (asked-is c l t w s (λ k. currentTold c (sqsOf k))) ∙ current-means c l t w s in
+      ap (linkageAt c) place ∙ cc
 
-  pub time-at : timeAt c t ≡ time l
+  pub time-at : timeAt c (t .axis) (t .times) ≡ time l
   unfolding timeTold
   time-at =
-      let e : Number (timeAt c t) ≡ Number (time l) = sym (asked-is c l t w s (λ k. timeTold c (sqsOf k))) ∙ time-means c l t w s in cc
+      let e : Number (timeOf (half c) (sqsOf t)) ≡ Number (time l) = sym (asked-is c l t w s (λ k. timeTold c (sqsOf k))) ∙ time-means c l t w s in
+      ap (λ (i : ℕ). getD (t .times) i 0) place ∙ cc
 
-  pub first-at : (h : ℕ) → 1 ≤ h → h ≤ c .heads → firstAt c t h ≡ firstIn (membersOf (l .sets) h)
+  pub first-at : (h : ℕ) → 1 ≤ h → h ≤ c .heads → firstAt c (t .links) h ≡ firstIn (membersOf (l .sets) h)
   first-at h a b = first-of (total c + 1) (c .heads) (l .sets) (t .links) (s .links) h (set-head (total c + 1) (c .heads) h a b (omega arith))
 
-  pub operand-at : (v : ℕ) → isOperand c v ≡ true → operandAt c t v ≡ operandOf l v
+  -- a number below 65,536 stands for itself
+  pub operand-plain : (v : ℕ) → v < 65536 → (operandAt c (t .links) (t .axis) v ≡ v) × (operandOf l v ≡ v)
+  unfolding operandAt operandOf
+  operand-plain v h = rw (lt-ltb v 65536 h) (refl, refl)
+
+  pub operand-at : (v : ℕ) → isOperand c v ≡ true → operandAt c (t .links) (t .axis) v ≡ operandOf l v
   unfolding operandAt operandOf
   operand-at v o =
       test (ltb v 65536)

@@ -25,7 +25,7 @@ firstIn (x ∷ l) = x
 unfoldable pub operandOf : Lists → ℕ → ℕ
 operandOf l v = if ltb v 65536 then v else if eqb v 65536 then current l else firstIn (membersOf (l .sets) (v - 65536))
 
--- the call of a record whose operands are x and y; in 13, x is an accumulator's number
+-- the call of a record whose operands are x and y; "in 13, x is 1 to 64", and such a number stands for itself
 unfoldable pub callOf : Record → ℕ → ℕ → Call
 callOf q x y =
     let op = q .operation in
@@ -41,7 +41,7 @@ callOf q x y =
     else if eqb op 10 then onList (activate false (q .clause) x y (q .t))
     else if eqb op 11 then onList (activate true (q .clause) x y (q .t))
     else if eqb op 12 then onList (ifEmpty x)
-    else accum (q .x) (q .t)
+    else accum x (q .t)
 
 -- "The stepping process moves to next, or to y when 12 finds the head empty"
 unfoldable pub nextOf : Record → Bool → ℕ

@@ -60,6 +60,20 @@ pub record Performed (c : Counts) (k : Call) (m n : Machine) : Type 0 where
   pub triples-all : length (n .triples) ≡ length (m .triples)
   pub required : Each (n .triples) (time (n .lists))
 
+-- no call moves a process or adds a triple
+pub perform-sizes : (c : Counts) (k : Call) (m : Machine) → Then (λ n. (n .positions ≡ m .positions) × (length (n .triples) ≡ length (m .triples))) (perform c k m)
+unfolding perform
+perform-sizes c (onList k) m = go (listsAfter c k (m .lists))
+  where
+    go : (r : Result Lists) → Then (λ n. (n .positions ≡ m .positions) × (length (n .triples) ≡ length (m .triples))) (changing m r)
+    go (refused r) = tt
+    go (done l) = (refl, refl)
+perform-sizes c (accum k d) m = go (updatedOf (numbered k (m .triples)) (time (m .lists)) d)
+  where
+    go : (u : Updated) → Then (λ n. (n .positions ≡ m .positions) × (length (n .triples) ≡ length (m .triples))) (storing m k u)
+    go (To v) = (refl, length-set (m .triples) (k - 1) v)
+    go (NotUpdated r) = tt
+
 module _ (c : Counts) (a : Allowed c) (m : Machine) (t : Tables) (s : Spells c (m .lists) t) (q : Each (m .triples) (time (m .lists))) where
   abbrev l : Lists
   l = m .lists
@@ -130,13 +144,20 @@ next-of h q none r = go (eqb (q .operation) 12) refl none
     go true e false = r .next-in
     go false e d = r .next-in
 
-set-in : (l : List ℕ) (j v R : ℕ) → ((i : ℕ) → getD l i 0 ≤ R) → v ≤ R → (i : ℕ) → getD (set l j v) i 0 ≤ R
+pub set-in : (l : List ℕ) (j v R : ℕ) → ((i : ℕ) → getD l i 0 ≤ R) → v ≤ R → (i : ℕ) → getD (set l j v) i 0 ≤ R
 set-in l j v R f b i =
     decide i j
     (λ e. below i (length l)
     (λ k. subst (λ (n : ℕ). getD (set l n v) i 0 ≤ R) e (rw (getD-set-same l i v 0 k) b))
     (λ k. subst (λ (n : ℕ). getD (set l n v) i 0 ≤ R) e (rw (set-out l i v k) (f i))))
     (λ n. rw (getD-set-other l j i v 0 n) (f i))
+
+pub next-in : (s : Sheet) → InRange s → (m : Machine) → recordNow s m ≤ length (s .records) → nextNow s m ≤ length (s .records)
+unfolding nextNow
+next-in s r m b =
+    test (eqb (recordNow s m) 0)
+    (λ z. rw z (omega arith))
+    (λ z. rw z (next-of (headerIs s) (recordOf s (recordNow s m)) _ (r .record-in (recordNow s m) (omega (arith, eqb-false (recordNow s m) 0 z)) b)))
 
 then-so : (P Q : Machine → Type 0) (r : Result Machine) → ((k : Machine) → P k → Q k) → Then P r → Then Q r
 then-so P Q (refused r) f g = tt
@@ -152,21 +173,13 @@ module _ (s : Sheet) (r : InRange s) (m : Machine) (g : Going s m) where
       → Q (turn s 1 m)
   by-call Q f h = turn-cases s m Q f (then-so _ _ (perform (s .counts) (callNow s m) m) h its-call)
 
-  next-in : nextNow s m ≤ length (s .records)
-  unfolding nextNow
-  next-in =
-      test (eqb (recordNow s m) 0)
-      (λ z. rw z (omega arith))
-      (λ z. rw z (next-of (headerIs s) (recordOf s (recordNow s m)) _
-      (r .record-in (recordNow s m) (omega (arith, eqb-false (recordNow s m) 0 z)) (g .positions-in (current (m .lists) - main (s .counts))))))
-
   pub turn-going : Going s (onward m (turn s 1 m))
   turn-going =
       by-call (λ t. Going s (onward m t)) (λ e. g)
       (λ k p. record {
         spelled = p .spelled;
         positions-all = length-set (k .positions) _ _ ∙ ap length (p .positions) ∙ g .positions-all;
-        positions-in = set-in (k .positions) _ _ _ (rw (p .positions) (g .positions-in)) next-in;
+        positions-in = set-in (k .positions) _ _ _ (rw (p .positions) (g .positions-in)) (next-in s r m (g .positions-in _));
         triples-all = p .triples-all ∙ g .triples-all;
         required = p .required;
       })

@@ -1,0 +1,111 @@
+// The runner of model sheets: a run goes on from its lent tables, turn by turn, and writes a line for each accepted step.
+pub mod fresh;
+pub mod judge;
+pub mod perform;
+pub mod reading;
+pub mod steps;
+pub mod turns;
+
+use crate::judge::judge_run;
+use crate::turns::turns;
+use counts::Refusal;
+use machine::End;
+use model::judge::Verdict;
+use sheet::check::check;
+use sheet::header::Checked;
+use sheet::header::Header;
+ghost use mathlib.Core.Path.{_≡_};
+ghost use Rattle.sheet.specs.Accepted.{checked};
+ghost use Rattle.sheet.specs.declared.header.Checked.the-variants.{Accepted};
+ghost use Rattle.runner.specs.Run.{refusedRan, checkedRun, runOn};
+
+// What a run call answers: how many lines it wrote, and how it ended.
+pub struct Ran {
+    pub lines: u32,
+    pub end: End,
+}
+
+fn refused(q: Refusal) -> Ran
+    ensures { λ r. ⌜ r ≡ refusedRan q ⌝ }
+{
+    Ran {
+        lines: 0,
+        end: End::Refused(q),
+    }
+}
+
+// A call on a sheet that was accepted: refusals 1 and 2, then turns.
+fn run_accepted(
+    header: Header,
+    sheet: &[u8],
+    links: &mut [u32],
+    axis: &mut [u32],
+    times: &mut [u64],
+    marks: &mut [u8],
+    positions: &mut [u32],
+    accums: &mut [i64],
+    trace: &mut [u8],
+) -> Ran
+    requires { ⌜ checked (now sheet) ≡ Accepted header ⌝ }
+    ensures { λ r. ⌜ record { run = record { model = record { links = now (links .exit); axis = now (axis .exit); times = now (times .exit); marks = now (marks .exit) }; positions = now (positions .exit); words = now (accums .exit) }; trace = now (trace .exit); result = r }
+        ≡ checkedRun (Accepted header) (now (sheet .entry)) (record { model = record { links = now (links .entry); axis = now (axis .entry); times = now (times .entry); marks = now (marks .entry) }; positions = now (positions .entry); words = now (accums .entry) }) (now (trace .entry)) ⌝ }
+{
+    let c = header.counts;
+    let v = judge_run(
+        c,
+        header.records,
+        links,
+        axis,
+        times,
+        marks,
+        positions,
+        accums,
+        trace.len(),
+    );
+    match v {
+        Verdict::Refused(q) => refused(q),
+        Verdict::Fine => turns(
+            c,
+            sheet,
+            links,
+            axis,
+            times,
+            marks,
+            positions,
+            accums,
+            trace,
+        ),
+    }
+}
+
+// One call of a run: refusals 8, 1 and 2 change nothing; then turns, until main has finished, the trace holds no line more, or a step
+// is refused. The tables are the run to go on with, fresh or as the last call left them.
+pub fn run(
+    sheet: &[u8],
+    links: &mut [u32],
+    axis: &mut [u32],
+    times: &mut [u64],
+    marks: &mut [u8],
+    positions: &mut [u32],
+    accums: &mut [i64],
+    trace: &mut [u8],
+) -> Ran
+    ensures { λ r. ⌜ record { run = record { model = record { links = now (links .exit); axis = now (axis .exit); times = now (times .exit); marks = now (marks .exit) }; positions = now (positions .exit); words = now (accums .exit) }; trace = now (trace .exit); result = r }
+        ≡ runOn (now (sheet .entry)) (record { model = record { links = now (links .entry); axis = now (axis .entry); times = now (times .entry); marks = now (marks .entry) }; positions = now (positions .entry); words = now (accums .entry) }) (now (trace .entry)) ⌝ }
+{
+    let read = check(sheet);
+    match read {
+        Checked::Refused(q) => refused(q),
+        Checked::Accepted(header) => run_accepted(
+            header,
+            sheet,
+            links,
+            axis,
+            times,
+            marks,
+            positions,
+            accums,
+            trace,
+        ),
+    }
+}

@@ -1,0 +1,68 @@
+// One step of a run, on judged tables: the call of the record that current is at, or finish; then the process moves on and the line
+// is written.
+use crate::perform::perform;
+use crate::reading::due;
+use crate::reading::place_now;
+use counts::Counts;
+use counts::Refusal;
+use model::answer::Answer;
+use ring::wide;
+use trace::put_line;
+ghost use mathlib.Core.Path.{_≡_};
+ghost use Prim.Native.Nat.{_+_, _≤_};
+ghost use lib.ListN.{length};
+ghost use Rattle.runner.specs.Run.{turnedOf, stepOn};
+ghost use Rattle.runner.specs.Standing.{Standing};
+
+// Whether the run goes on.
+pub enum Turned {
+    On,
+    Refused(Refusal),
+}
+
+// What a call's answer means for the run.
+pub(crate) fn goes_on(a: Answer) -> Turned
+    ensures { λ r. ⌜ r ≡ turnedOf a ⌝ }
+{
+    match a {
+        Answer::Done => Turned::On,
+        Answer::Linkage(_) => Turned::On,
+        Answer::Number(_) => Turned::On,
+        Answer::Truth(_) => Turned::On,
+        Answer::Refused(q) => Turned::Refused(q),
+    }
+}
+
+// The line goes to byte i of the trace.
+pub(crate) fn step(
+    c: Counts,
+    sheet: &[u8],
+    links: &mut [u32],
+    axis: &mut [u32],
+    times: &mut [u64],
+    marks: &mut [u8],
+    positions: &mut [u32],
+    accums: &mut [i64],
+    trace: &mut [u8],
+    i: usize,
+) -> Turned
+    requires { ⌜ Standing c (now sheet) (record { model = record { links = now links; axis = now axis; times = now times; marks = now marks }; positions = now positions; words = now accums }) ⌝ }
+    requires { ⌜ i + 16 ≤ length (now trace) ⌝ }
+    ensures { λ r. ⌜ record { run = record { model = record { links = now (links .exit); axis = now (axis .exit); times = now (times .exit); marks = now (marks .exit) }; positions = now (positions .exit); words = now (accums .exit) }; trace = now (trace .exit); turned = r }
+        ≡ stepOn c (now (sheet .entry)) i (record { model = record { links = now (links .entry); axis = now (axis .entry); times = now (times .entry); marks = now (marks .entry) }; positions = now (positions .entry); words = now (accums .entry) }) (now (trace .entry)) ⌝ }
+{
+    let f = place_now(c, axis);
+    let p = wide(f);
+    let r = positions[p];
+    let time = times[p];
+    let d = due(c, sheet, r, links, axis);
+    let a = perform(c, d, time, links, axis, times, marks, accums);
+    match goes_on(a) {
+        Turned::Refused(q) => Turned::Refused(q),
+        Turned::On => {
+            positions[p] = d.next;
+            put_line(trace, i, time, c.heads + f, r);
+            Turned::On
+        }
+    }
+}

@@ -1,0 +1,80 @@
+// Turn after turn on judged tables, until main has finished, the trace is full or a step is refused.
+use crate::Ran;
+use crate::reading::ends_now;
+use crate::steps::Turned;
+use crate::steps::step;
+use counts::Counts;
+use machine::End;
+ghost use mathlib.Core.Path.{_≡_};
+ghost use Prim.Native.Nat.{_/_, _≤_};
+ghost use lib.ListN.{length};
+ghost use Rattle.runner.specs.Run.{turnsOn};
+ghost use Rattle.runner.specs.Standing.{Standing};
+
+// A count of lines, at most 4,096.
+fn count(n: usize) -> u32
+    requires { ⌜ n ≤ 4096 ⌝ }
+    ensures { λ r. ⌜ r ≡ n ⌝ }
+{
+    n as u32
+}
+
+pub(crate) fn turns(
+    c: Counts,
+    sheet: &[u8],
+    links: &mut [u32],
+    axis: &mut [u32],
+    times: &mut [u64],
+    marks: &mut [u8],
+    positions: &mut [u32],
+    accums: &mut [i64],
+    trace: &mut [u8],
+) -> Ran
+    requires { ⌜ Standing c (now sheet) (record { model = record { links = now links; axis = now axis; times = now times; marks = now marks }; positions = now positions; words = now accums }) ⌝ }
+    requires { ⌜ length (now trace) ≤ 65536 ⌝ }
+    ensures { λ r. ⌜ record { run = record { model = record { links = now (links .exit); axis = now (axis .exit); times = now (times .exit); marks = now (marks .exit) }; positions = now (positions .exit); words = now (accums .exit) }; trace = now (trace .exit); result = r }
+        ≡ turnsOn c (now (sheet .entry)) 0 (length (now (trace .entry)) / 16) (record { model = record { links = now (links .entry); axis = now (axis .entry); times = now (times .entry); marks = now (marks .entry) }; positions = now (positions .entry); words = now (accums .entry) }) (now (trace .entry)) ⌝ }
+{
+    let room = trace.len() / 16;
+    let mut n = 0;
+    while n < room {
+        if ends_now(c, axis, positions) {
+            return Ran {
+                lines: count(n),
+                end: End::Finished,
+            };
+        }
+        match step(
+            c,
+            sheet,
+            links,
+            axis,
+            times,
+            marks,
+            positions,
+            accums,
+            trace,
+            16 * n,
+        ) {
+            Turned::Refused(q) => {
+                return Ran {
+                    lines: count(n),
+                    end: End::Refused(q),
+                };
+            }
+            Turned::On => {
+                n += 1;
+            }
+        }
+    }
+    if ends_now(c, axis, positions) {
+        return Ran {
+            lines: count(n),
+            end: End::Finished,
+        };
+    }
+    Ran {
+        lines: count(n),
+        end: End::Full,
+    }
+}

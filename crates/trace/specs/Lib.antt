@@ -1,0 +1,3 @@
+-- The bytes of a trace.
+pub mod Lines
+pub mod Put

@@ -1,0 +1,36 @@
+// The trace: a line is the time (64 bits), the process (32) and the record (32), little-endian, 16 bytes in all.
+// Core functions: the caller knows that what is written lies within the slice.
+ghost use mathlib.Core.Path.{_≡_};
+ghost use Prim.Native.Nat.{_+_, _≤_};
+ghost use lib.ListN.{length};
+ghost use Rattle.trace.specs.Lines.{put, bytes4, bytes8, lineBytes};
+
+// The four bytes of x at i, the lowest first.
+pub fn put_u32(s: &mut [u8], i: usize, x: u32)
+    requires { ⌜ i + 4 ≤ length (now s) ⌝ }
+    ensures { λ _. ⌜ now (s .exit) ≡ put (now (s .entry)) i (bytes4 x) ⌝ }
+{
+    s[i] = (x % 256) as u8;
+    s[i + 1] = (x / 256 % 256) as u8;
+    s[i + 2] = (x / 256 / 256 % 256) as u8;
+    s[i + 3] = (x / 256 / 256 / 256 % 256) as u8;
+}
+
+// The eight bytes of x at i, the lowest first.
+pub fn put_u64(s: &mut [u8], i: usize, x: u64)
+    requires { ⌜ i + 8 ≤ length (now s) ⌝ }
+    ensures { λ _. ⌜ now (s .exit) ≡ put (now (s .entry)) i (bytes8 x) ⌝ }
+{
+    put_u32(s, i, (x % 4294967296) as u32);
+    put_u32(s, i + 4, (x / 4294967296) as u32);
+}
+
+// A line at i.
+pub fn put_line(s: &mut [u8], i: usize, time: u64, process: u32, rec: u32)
+    requires { ⌜ i + 16 ≤ length (now s) ⌝ }
+    ensures { λ _. ⌜ now (s .exit) ≡ put (now (s .entry)) i (lineBytes time process rec) ⌝ }
+{
+    put_u64(s, i, time);
+    put_u32(s, i + 8, process);
+    put_u32(s, i + 12, rec);
+}
