@@ -2,6 +2,7 @@
 use crate::accum_calls;
 use crate::head::Head;
 use crate::judge_call;
+use crate::run_calls;
 use crate::sequencing_calls;
 use crate::set_calls;
 use crate::sheet_call;
@@ -52,6 +53,9 @@ pub(crate) fn known(call: u32) -> bool {
     if sheet_call::has(call) {
         return true;
     }
+    if run_calls::has(call) {
+        return true;
+    }
     judge_call::has(call)
 }
 
@@ -79,6 +83,19 @@ pub(crate) fn answer(
     }
     if sheet_call::has(call) {
         return sheet_call::answer(sheet);
+    }
+    if run_calls::has(call) {
+        return run_calls::answer(
+            call,
+            links,
+            axis,
+            times,
+            marks,
+            accums,
+            positions,
+            sheet,
+            trace,
+        );
     }
     judge_call::answer(head, links, axis, times, marks)
 }

@@ -7,6 +7,7 @@ mod flow;
 mod head;
 mod judge_call;
 mod respond;
+mod run_calls;
 mod sequencing_calls;
 mod serve;
 mod set_calls;

@@ -92,7 +92,7 @@ module _ (bytes : List ℕ) (ok : accepted bytes ≡ true) (m : Machine) (u : Ru
   unfolding checked
   is-accepted = rw ok
 
-  by-judge : (b : List ℕ) → runOn bytes u b ≡ judgedRun (runJudged c (recordsOf bytes) u (length b)) c bytes u b
+  pub by-judge : (b : List ℕ) → runOn bytes u b ≡ judgedRun (runJudged c (recordsOf bytes) u (length b)) c bytes u b
   unfolding runOn
   by-judge b = ap (λ (k : Checked). checkedRun k bytes u b) is-accepted
 

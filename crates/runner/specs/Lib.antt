@@ -14,4 +14,5 @@ pub mod RunIs
 pub mod CallFollows
 pub mod Fresh
 pub mod Filling
+pub mod Starting
 pub mod Demand3

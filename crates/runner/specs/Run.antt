@@ -11,6 +11,7 @@ use Rattle.counts.specs.declared.Counts.{Counts}
 use Rattle.counts.specs.declared.Refusal.{Refusal}
 use Rattle.counts.specs.declared.Refusal.the-variants.{Size}
 use Rattle.counts.specs.Counts.{linkageAt}
+use Rattle.counts.specs.Refusals.{refusalNumber}
 use Rattle.model.specs.declared.answer.Answer.{Answer}
 use Rattle.model.specs.declared.answer.Answer.the-variants.{Done, Linkage, Number, Truth, Refused as NotDone}
 use Rattle.model.specs.declared.judge.Verdict.{Verdict}
@@ -154,3 +155,13 @@ checkedRun (NotAccepted r) bytes u tr = stoppedOn 0 (Refused r) u tr
 
 unfoldable pub runOn : List ℕ → RunTables → List ℕ → RanOn
 runOn bytes u tr = checkedRun (checked bytes) bytes u tr
+
+-- ---- the answer as a number: "lines × 256 + code: 0 finished, 200 full, else the refusal"
+
+unfoldable pub endCode : End → ℕ
+endCode Finished = 0
+endCode Full = 200
+endCode (Refused r) = refusalNumber r
+
+unfoldable pub ranNumber : Ran → ℕ
+ranNumber r = r .lines * 256 + endCode (r .end)

@@ -41,7 +41,7 @@ fn clear_accums(accums: &mut [i64])
 }
 
 // For a sheet that was accepted.
-fn fill(
+pub(crate) fn fill(
     header: Header,
     sheet: &[u8],
     links: &mut [u32],

@@ -1,4 +1,5 @@
 // The runner of model sheets: a run goes on from its lent tables, turn by turn, and writes a line for each accepted step.
+pub mod answer;
 pub mod fresh;
 pub mod judge;
 pub mod perform;
@@ -6,6 +7,7 @@ pub mod reading;
 pub mod steps;
 pub mod turns;
 
+use crate::fresh::fill;
 use crate::judge::judge_run;
 use crate::turns::turns;
 use counts::Refusal;
@@ -17,6 +19,7 @@ use sheet::header::Header;
 ghost use mathlib.Core.Path.{_≡_};
 ghost use Rattle.sheet.specs.Accepted.{checked};
 ghost use Rattle.sheet.specs.declared.header.Checked.the-variants.{Accepted};
+ghost use Rattle.runner.specs.Starting.{Startable, startedOn};
 ghost use Rattle.runner.specs.Run.{refusedRan, checkedRun, runOn};
 
 // What a run call answers: how many lines it wrote, and how it ended.
@@ -108,4 +111,35 @@ pub fn run(
             trace,
         ),
     }
+}
+
+// A fresh run of a sheet that was accepted, on tables of its lengths, whatever they hold. A core function: nothing is judged again.
+pub fn start(
+    header: Header,
+    sheet: &[u8],
+    links: &mut [u32],
+    axis: &mut [u32],
+    times: &mut [u64],
+    marks: &mut [u8],
+    positions: &mut [u32],
+    accums: &mut [i64],
+    trace: &mut [u8],
+) -> Ran
+    requires { ⌜ Startable header (now sheet) (record { model = record { links = now links; axis = now axis; times = now times; marks = now marks }; positions = now positions; words = now accums }) (now trace) ⌝ }
+    ensures { λ r. ⌜ record { run = record { model = record { links = now (links .exit); axis = now (axis .exit); times = now (times .exit); marks = now (marks .exit) }; positions = now (positions .exit); words = now (accums .exit) }; trace = now (trace .exit); result = r }
+        ≡ startedOn (header .counts) (now (sheet .entry)) (now (trace .entry)) ⌝ }
+{
+    fill(header, sheet, links, axis, times, marks, positions, accums);
+    let c = header.counts;
+    turns(
+        c,
+        sheet,
+        links,
+        axis,
+        times,
+        marks,
+        positions,
+        accums,
+        trace,
+    )
 }

@@ -1,0 +1,3 @@
+-- The edge for a C host.
+pub mod Host
+pub mod Arrays
