@@ -1,9 +1,8 @@
 -- The first parts of the local arrays have a sheet's lengths.
-use Prim.Native.Nat.{ℕ, zero, suc, _+_, _*_, _≤_}
-use mathlib.Core.Path.{_≡_, refl, sym, ap, _∙_, subst}
-use mathlib.Core.List.{List, _∷_}
+use Prim.Native.Nat.{ℕ, _+_, _*_, _≤_}
+use mathlib.Core.Path.{_≡_, sym, ap, _∙_, subst}
+use mathlib.Core.List.{List}
 use native.Mathlib.Omega.{arith}
-use native.Mathlib.Nat.{le-of-suc-le-suc, not-suc-le-zero}
 use lib.IntN.{pos}
 use lib.ListN.{length, take, replicate, length-replicate}
 use borrow.Author.Tests.{eq-eqb}
@@ -16,14 +15,7 @@ use Rattle.sheet.specs.Ranges.{checked-yes, allowed-counts}
 use Rattle.runner.specs.Run.{RunTables}
 use Rattle.runner.specs.Fresh.{sizesFine}
 use Rattle.runner.specs.Starting.{Startable}
-
-take-replicate : {A : Type 0} (k n : ℕ) (v : A) → k ≤ n → take k (replicate n v) ≡ replicate k v
-take-replicate zero n v h = refl
-take-replicate (suc k) zero v h = absurd (not-suc-le-zero h)
-take-replicate (suc k) (suc n) v h = ap (λ (l : List _). v ∷ l) (take-replicate k n v (le-of-suc-le-suc h))
-
-pub part-length : {A : Type 0} (k n : ℕ) (v : A) → k ≤ n → length (take k (replicate n v)) ≡ k
-part-length k n v h = ap length (take-replicate k n v h) ∙ length-replicate k v
+use Rattle.runner.specs.Parts.{part-length}
 
 -- the counts of an accepted sheet are in their limits
 pub header-allowed : (bytes : List ℕ) (h : Header) → checked bytes ≡ Accepted h → Allowed (h .counts)

@@ -15,4 +15,5 @@ pub mod CallFollows
 pub mod Fresh
 pub mod Filling
 pub mod Starting
+pub mod Parts
 pub mod Demand3
