@@ -1,5 +1,5 @@
-//! Tests of a Simula 67 simulation engine by a plain list simulator: single calls, lists of runs, and
-//! the printing program, each compared word for word.
+//! Tests of a Simula 67 simulation engine by a plain list simulator: single calls, lists of runs, the
+//! printing program and the C edge, each compared word for word.
 
 mod check;
 mod drive;
@@ -19,7 +19,7 @@ fn main() -> ExitCode {
         Ok(options) => options,
         Err(error) => return misused(&error),
     };
-    let driving = matches!(options.command.as_str(), "calls" | "runs" | "print");
+    let driving = matches!(options.command.as_str(), "calls" | "runs" | "print" | "host");
     if driving && options.program.path.is_empty() {
         return misused("no program to test");
     }
@@ -44,6 +44,7 @@ fn perform(options: &Options) -> Option<bool> {
         "calls" => drive::calls::drive(program, options.count, seed, &options.only),
         "runs" => drive::runs::drive(program, options.sheets.unwrap_or(2_000), seed),
         "print" => drive::print::drive(program, options.sheets.unwrap_or(400), seed),
+        "host" => drive::host::drive(program, options.sheets.unwrap_or(5_000), seed),
         "serve" => {
             mutations::switch(options.mutation);
             drive::serve::requests().is_ok()

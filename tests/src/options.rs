@@ -10,10 +10,11 @@ usage:
   nodbrize_tests calls PATH [--count N] [--seed S] [--only LIST] [-- ARGS]
   nodbrize_tests runs PATH [--sheets N] [--seed S] [-- ARGS]
   nodbrize_tests print PATH [--sheets N] [--seed S] [-- ARGS]
+  nodbrize_tests host PATH [--sheets N] [--seed S] [-- ARGS]
   nodbrize_tests serve [--mutation K]         answer requests on standard input by the simulator
   nodbrize_tests show [--mutation K]          print the run of a sheet on standard input
-PATH is the program under test: the calls program, for print the printing program; it is started with
-ARGS. LIST names calls like 0,1,20-30. Each start may take --timeout SECONDS, 300 if not given.";
+PATH is the program under test: the calls program, for print the printing program, for host tests/host/serve.c;
+it is started with ARGS. LIST names calls like 0,1,20-30. Each start may take --timeout SECONDS, 300 if not given.";
 
 /// What the command line asks for.
 pub struct Options {

@@ -2,6 +2,7 @@
 
 pub mod calls;
 pub mod child;
+pub mod host;
 pub mod print;
 pub mod report;
 pub mod runs;
