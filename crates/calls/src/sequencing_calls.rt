@@ -3,8 +3,8 @@ use crate::answer::Reply;
 use crate::answer::answered;
 use crate::head::Head;
 use model::answer::Answer;
-use simulation::calls;
-use simulation::queries;
+use simula::sequencing_calls;
+use simula::sequencing_queries;
 
 fn is_call(call: u32) -> bool {
     if call == 32 {
@@ -44,13 +44,13 @@ fn call_of(
     let y = head.y;
     let t = head.t;
     match call {
-        6 => calls::hold(c, links, axis, times, marks, t),
-        7 => calls::passivate(c, links, axis, times, marks),
-        8 => calls::wait(c, links, axis, times, marks, y),
-        9 => calls::cancel(c, links, axis, times, marks, x),
-        10 => calls::activate(c, links, axis, times, marks, clause, x, y, t),
-        11 => calls::reactivate(c, links, axis, times, marks, clause, x, y, t),
-        _ => calls::finish(c, links, axis, times, marks),
+        6 => sequencing_calls::hold(c, links, axis, times, marks, t),
+        7 => sequencing_calls::passivate(c, links, axis, times, marks),
+        8 => sequencing_calls::wait(c, links, axis, times, marks, y),
+        9 => sequencing_calls::cancel(c, links, axis, times, marks, x),
+        10 => sequencing_calls::activate(c, links, axis, times, marks, clause, x, y, t),
+        11 => sequencing_calls::reactivate(c, links, axis, times, marks, clause, x, y, t),
+        _ => sequencing_calls::finish(c, links, axis, times, marks),
     }
 }
 
@@ -59,12 +59,12 @@ fn query_of(head: Head, links: &[u32], axis: &[u32], times: &[u64], marks: &[u8]
     let c = head.counts;
     let x = head.x;
     match call {
-        25 => queries::current(c, links, axis, times, marks),
-        26 => queries::time(c, links, axis, times, marks),
-        27 => queries::idle(c, links, axis, times, marks, x),
-        28 => queries::terminated(c, links, axis, times, marks, x),
-        29 => queries::evtime(c, links, axis, times, marks, x),
-        _ => queries::nextev(c, links, axis, times, marks, x),
+        25 => sequencing_queries::current(c, links, axis, times, marks),
+        26 => sequencing_queries::time(c, links, axis, times, marks),
+        27 => sequencing_queries::idle(c, links, axis, times, marks, x),
+        28 => sequencing_queries::terminated(c, links, axis, times, marks, x),
+        29 => sequencing_queries::evtime(c, links, axis, times, marks, x),
+        _ => sequencing_queries::nextev(c, links, axis, times, marks, x),
     }
 }
 

@@ -3,8 +3,8 @@ use crate::answer::Reply;
 use crate::answer::answered;
 use crate::head::Head;
 use model::answer::Answer;
-use simset::calls;
-use simset::queries;
+use simula::set_calls;
+use simula::set_queries;
 
 fn is_call(call: u32) -> bool {
     if call < 1 {
@@ -36,11 +36,11 @@ fn call_of(head: Head, links: &mut [u32], axis: &[u32], times: &[u64], marks: &[
     let x = head.x;
     let y = head.y;
     match call {
-        1 => calls::out(c, links, axis, times, marks, x),
-        2 => calls::follow(c, links, axis, times, marks, x, y),
-        3 => calls::precede(c, links, axis, times, marks, x, y),
-        4 => calls::into(c, links, axis, times, marks, x, y),
-        _ => calls::clear(c, links, axis, times, marks, x),
+        1 => set_calls::out(c, links, axis, times, marks, x),
+        2 => set_calls::follow(c, links, axis, times, marks, x, y),
+        3 => set_calls::precede(c, links, axis, times, marks, x, y),
+        4 => set_calls::into(c, links, axis, times, marks, x, y),
+        _ => set_calls::clear(c, links, axis, times, marks, x),
     }
 }
 
@@ -49,12 +49,12 @@ fn query_of(head: Head, links: &[u32], axis: &[u32], times: &[u64], marks: &[u8]
     let c = head.counts;
     let x = head.x;
     match call {
-        12 => queries::empty(c, links, axis, times, marks, x),
-        20 => queries::first(c, links, axis, times, marks, x),
-        21 => queries::last(c, links, axis, times, marks, x),
-        22 => queries::suc(c, links, axis, times, marks, x),
-        23 => queries::pred(c, links, axis, times, marks, x),
-        _ => queries::cardinal(c, links, axis, times, marks, x),
+        12 => set_queries::empty(c, links, axis, times, marks, x),
+        20 => set_queries::first(c, links, axis, times, marks, x),
+        21 => set_queries::last(c, links, axis, times, marks, x),
+        22 => set_queries::suc(c, links, axis, times, marks, x),
+        23 => set_queries::pred(c, links, axis, times, marks, x),
+        _ => set_queries::cardinal(c, links, axis, times, marks, x),
     }
 }
 

@@ -1,6 +1,6 @@
 -- Demand 3: one theorem about a whole list of run calls, refused ones included, for every accepted sheet and every list of trace buffers.
 use Prim.Native.Nat.{ℕ, _-_, _<_}
-use mathlib.Core.Path.{_≡_, sym, _∙_}
+use mathlib.Core.Path.{_≡_, refl, sym, _∙_}
 use mathlib.Core.Bool.{true}
 use mathlib.Core.List.{List, [], _∷_}
 use lib.ListN.{length}
@@ -8,6 +8,7 @@ use Rattle.ring.specs.Lists.{In}
 use Rattle.ring.specs.Distinct.{Dist, joined}
 use Rattle.model.specs.Notices.{whos}
 use Rattle.model.specs.Only.{tables-only}
+use Rattle.model.specs.declared.judge.Verdict.the-variants.{Fine}
 use Rattle.sheet.specs.Sheet.{countsOf, recordsOf, sheetOf}
 use Rattle.sheet.specs.Accepted.{accepted}
 use Rattle.machine.specs.Machine.{Machine, fresh}
@@ -16,7 +17,8 @@ use Rattle.machine.specs.Run as machine
 use Rattle.machine.specs.Uncut.{Joined, calls-joined}
 use Rattle.machine.specs.History.{Tie, scheduled, noticesAt}
 use Rattle.machine.specs.Laws.{Laws, machine-laws}
-use Rattle.runner.specs.Run.{RunTables, RanOn, runOn}
+use Rattle.runner.specs.Run.{RunTables, runJudged, RanOn, runOn}
+use Rattle.runner.specs.Judging.{judged-fine, passed-standing}
 use Rattle.runner.specs.Standing.{Stands}
 use Rattle.runner.specs.Fresh.{freshRun, fresh-stands}
 use Rattle.runner.specs.CallFollows.{Agrees, call-agrees}
@@ -69,6 +71,14 @@ module _ (bytes : List ℕ) (ok : accepted bytes ≡ true) where
         joined-lines = calls-joined (sheetOf bytes) (fresh (sheetOf bytes)) (lengths buffers);
         laws = machine-laws bytes ok;
       }
+
+-- a call from any tables that the judge passes, whoever wrote them, is the call of the machine that they spell
+pub any-run : (bytes : List ℕ) → accepted bytes ≡ true → (u : RunTables) (b : List ℕ)
+    → runJudged (countsOf bytes) (recordsOf bytes) u (length b) ≡ Fine
+    → (m : Machine) × Stands (countsOf bytes) (recordsOf bytes) m u × Agrees bytes b (call (sheetOf bytes) (length b) m) (runOn bytes u b)
+any-run bytes ok u b e =
+    let s = passed-standing bytes (countsOf bytes) ok refl u (length b) (judged-fine (countsOf bytes) (recordsOf bytes) u (length b) e) in
+    (s .machine, s .stands, call-agrees bytes ok (s .machine) u (s .stands) b)
 
 -- ---- the auditor's two questions
 

@@ -1,5 +1,3 @@
-// The sets of SIMSET: procedures on a table of links, calls on judged links, and the public calls and queries on a whole model.
-pub mod calls;
+// The sets of SIMSET: procedures on a table of links, and the calls on the links of a judged model.
 pub mod procedures;
-pub mod queries;
 pub mod steps;

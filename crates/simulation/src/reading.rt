@@ -12,7 +12,7 @@ ghost use Prim.Native.Nat.{_+_, _≤_};
 ghost use Rattle.simulation.specs.Calls.{currentTold, timeTold, idleTold, terminatedTold, evtimeTold, nextevTold};
 ghost use Rattle.simulation.specs.Promise.{sqs, Judged};
 
-pub(crate) fn current(c: Counts, axis: &[u32], times: &[u64]) -> Answer
+pub fn current(c: Counts, axis: &[u32], times: &[u64]) -> Answer
     requires { ⌜ Judged c (now axis) ⌝ }
     ensures { λ r. ⌜ r ≡ currentTold c (sqs (now (axis .entry)) (now (times .entry))) ⌝ }
 {
@@ -21,7 +21,7 @@ pub(crate) fn current(c: Counts, axis: &[u32], times: &[u64]) -> Answer
     Answer::Linkage(current_link(c, f))
 }
 
-pub(crate) fn time(c: Counts, axis: &[u32], times: &[u64]) -> Answer
+pub fn time(c: Counts, axis: &[u32], times: &[u64]) -> Answer
     requires { ⌜ Judged c (now axis) ⌝ }
     ensures { λ r. ⌜ r ≡ timeTold c (sqs (now (axis .entry)) (now (times .entry))) ⌝ }
 {
@@ -30,7 +30,7 @@ pub(crate) fn time(c: Counts, axis: &[u32], times: &[u64]) -> Answer
     Answer::Number(due(times, f))
 }
 
-pub(crate) fn idle(c: Counts, axis: &[u32], times: &[u64], x: u32) -> Answer
+pub fn idle(c: Counts, axis: &[u32], times: &[u64], x: u32) -> Answer
     requires { ⌜ Judged c (now axis) ⌝ }
     ensures { λ r. ⌜ r ≡ idleTold c x (sqs (now (axis .entry)) (now (times .entry))) ⌝ }
 {
@@ -42,7 +42,7 @@ pub(crate) fn idle(c: Counts, axis: &[u32], times: &[u64], x: u32) -> Answer
     Answer::Truth(axis[q] == 0)
 }
 
-pub(crate) fn terminated(c: Counts, marks: &[u8], x: u32) -> Answer
+pub fn terminated(c: Counts, marks: &[u8], x: u32) -> Answer
     ensures { λ r. ⌜ r ≡ terminatedTold c x (now (marks .entry)) ⌝ }
 {
     let ok = c.is_process(x);
@@ -53,7 +53,7 @@ pub(crate) fn terminated(c: Counts, marks: &[u8], x: u32) -> Answer
     Answer::Truth(mark_at(marks, q) == 1)
 }
 
-pub(crate) fn evtime(c: Counts, axis: &[u32], times: &[u64], x: u32) -> Answer
+pub fn evtime(c: Counts, axis: &[u32], times: &[u64], x: u32) -> Answer
     requires { ⌜ Judged c (now axis) ⌝ }
     ensures { λ r. ⌜ r ≡ evtimeTold c x (sqs (now (axis .entry)) (now (times .entry))) ⌝ }
 {
@@ -68,7 +68,7 @@ pub(crate) fn evtime(c: Counts, axis: &[u32], times: &[u64], x: u32) -> Answer
     Answer::Number(due(times, q))
 }
 
-pub(crate) fn nextev(c: Counts, axis: &[u32], times: &[u64], x: u32) -> Answer
+pub fn nextev(c: Counts, axis: &[u32], times: &[u64], x: u32) -> Answer
     requires { ⌜ Judged c (now axis) ⌝ }
     ensures { λ r. ⌜ r ≡ nextevTold c x (sqs (now (axis .entry)) (now (times .entry))) ⌝ }
 {

@@ -1,0 +1,65 @@
+use mathlib.Core.Path.{sym, _∙_}
+use Rattle.model.specs.Ready.{judged-ready}
+use Rattle.simulation.specs.Promise.{ready-judged}
+use mathlib.Core.List.{List}
+use Prim.Native.Nat.{ℕ}
+use Rattle.model.specs.Answers.{called-turned, called-fine}
+use Rattle.simulation.specs.Procedures.{Sqs}
+use Rattle.simulation.specs.Calls.{finishStep}
+use Rattle.simulation.specs.ReadPromise.{on-marks}
+use borrow.Author.Needs.{needs}
+use Rattle.simula.proofs.sequencing_calls.finish.Statement.{statement}
+use Rattle.simula.proofs.sequencing_calls.finish.Tie as tie
+
+judge-tables-requires : tie.Need-judge-tables-requires
+judge-tables-requires c κs = search needs
+
+enum-known-v : tie.Need-enum-known-v
+enum-known-v c = search needs
+
+enum-told : tie.Need-enum-told
+enum-told c = search needs
+
+finish-requires : tie.Need-finish-requires
+finish-requires c κs = ready-judged _ _ (judged-ready _ _ (sym (c .before .before .before .before .before .judge-tables .ensures) ∙ c .before .before .before .enum-told .given .1))
+
+same-length : tie.Need-same-length
+same-length c = search needs
+
+same-length-2 : tie.Need-same-length-2
+same-length-2 c = search needs
+
+same-length-3 : tie.Need-same-length-3
+same-length-3 c = search needs
+
+returns : tie.Need-returns
+returns c = called-turned _ _ _ (c .before .before .before .judge-tables .ensures) _ _ (c .before .v .given .1)
+
+same-length-4 : tie.Need-same-length-4
+same-length-4 c = search needs
+
+same-length-5 : tie.Need-same-length-5
+same-length-5 c = search needs
+
+same-length-6 : tie.Need-same-length-6
+same-length-6 c = search needs
+
+returns-2 : tie.Need-returns-2
+returns-2 c = called-fine _ _ _ (c .before .before .before .before .before .before .before .before .before .before .before .before .judge-tables .ensures) _ _ (c .before .before .before .before .before .before .before .before .before .before .enum-told .given .1) (on-marks _ _ _ _ _ _ _ _ _ (λ (k : List ℕ) (a : Sqs). finishStep (c .before .before .before .before .before .before .before .before .before .before .before .before .before .before .before .before .before .before .before .before .args .c) k a) (c .before .before .before .before .before .before .finish .ensures))
+
+pub finish-spec : {M : Type 1} → statement M
+finish-spec =
+    tie.close
+    (tie.spec
+    judge-tables-requires
+    enum-known-v
+    enum-told
+    finish-requires
+    same-length
+    same-length-2
+    same-length-3
+    returns
+    same-length-4
+    same-length-5
+    same-length-6
+    returns-2)

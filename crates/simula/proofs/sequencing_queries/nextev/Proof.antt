@@ -1,0 +1,30 @@
+use mathlib.Core.Path.{sym, _∙_}
+use Rattle.model.specs.Ready.{judged-ready}
+use Rattle.simulation.specs.Promise.{ready-judged}
+use Rattle.model.specs.Answers.{asked-turned, asked-fine}
+use borrow.Author.Needs.{needs}
+use Rattle.simula.proofs.sequencing_queries.nextev.Statement.{statement}
+use Rattle.simula.proofs.sequencing_queries.nextev.Tie as tie
+
+judge-tables-requires : tie.Need-judge-tables-requires
+judge-tables-requires c κs = search needs
+
+enum-known-v : tie.Need-enum-known-v
+enum-known-v c = search needs
+
+enum-told : tie.Need-enum-told
+enum-told c = search needs
+
+nextev-requires : tie.Need-nextev-requires
+nextev-requires c κs = ready-judged _ _ (judged-ready _ _ (sym (c .before .before .judge-tables .ensures) ∙ c .enum-told .given .1))
+
+returns : tie.Need-returns
+returns c = asked-turned _ _ _ (c .before .before .before .judge-tables .ensures) _ _ (c .before .v .given .1)
+
+returns-2 : tie.Need-returns-2
+returns-2 c = asked-fine _ _ _ (c .before .before .before .judge-tables .ensures) _ _ (c .before .enum-told .given .1) (c .nextev .ensures)
+
+pub nextev-spec : {M : Type 1} → statement M
+nextev-spec =
+    tie.close
+    (tie.spec judge-tables-requires enum-known-v enum-told nextev-requires returns returns-2)

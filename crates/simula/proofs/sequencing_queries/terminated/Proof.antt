@@ -1,0 +1,27 @@
+use Rattle.model.specs.Answers.{asked-turned, asked-fine}
+use borrow.Author.Needs.{needs}
+use Rattle.simula.proofs.sequencing_queries.terminated.Statement.{statement}
+use Rattle.simula.proofs.sequencing_queries.terminated.Tie as tie
+
+judge-tables-requires : tie.Need-judge-tables-requires
+judge-tables-requires c κs = search needs
+
+enum-known-v : tie.Need-enum-known-v
+enum-known-v c = search needs
+
+enum-told : tie.Need-enum-told
+enum-told c = search needs
+
+terminated-requires : tie.Need-terminated-requires
+terminated-requires c κs = search needs
+
+returns : tie.Need-returns
+returns c = asked-turned _ _ _ (c .before .before .before .judge-tables .ensures) _ _ (c .before .v .given .1)
+
+returns-2 : tie.Need-returns-2
+returns-2 c = asked-fine _ _ _ (c .before .before .before .judge-tables .ensures) _ _ (c .before .enum-told .given .1) (c .terminated .ensures)
+
+pub terminated-spec : {M : Type 1} → statement M
+terminated-spec =
+    tie.close
+    (tie.spec judge-tables-requires enum-known-v enum-told terminated-requires returns returns-2)

@@ -1,0 +1,82 @@
+// The public queries of SIMSET: lent the whole model, refusing in the order 1, 2, 3.
+use counts::Counts;
+use model::answer::Answer;
+use model::judge::Verdict;
+use model::judge::judge_tables;
+use simset::steps;
+ghost use mathlib.Core.Path.{_≡_};
+ghost use Rattle.model.specs.Answers.{asked};
+ghost use Rattle.simset.specs.Calls.{ofLinks, firstTold, lastTold, sucTold, predTold, emptyTold, cardinalTold};
+
+// The first member of the head x, or none.
+pub fn first(c: Counts, links: &[u32], axis: &[u32], times: &[u64], marks: &[u8], x: u32) -> Answer
+    ensures { λ r. ⌜ r ≡ asked c (ofLinks (firstTold c x)) (record { links = now (links .entry); axis = now (axis .entry); times = now (times .entry); marks = now (marks .entry) }) ⌝ }
+{
+    let v = judge_tables(c, links, axis, times, marks);
+    match v {
+        Verdict::Refused(r) => Answer::Refused(r),
+        Verdict::Fine => steps::first(c, links, x),
+    }
+}
+
+// The last member of the head x, or none.
+pub fn last(c: Counts, links: &[u32], axis: &[u32], times: &[u64], marks: &[u8], x: u32) -> Answer
+    ensures { λ r. ⌜ r ≡ asked c (ofLinks (lastTold c x)) (record { links = now (links .entry); axis = now (axis .entry); times = now (times .entry); marks = now (marks .entry) }) ⌝ }
+{
+    let v = judge_tables(c, links, axis, times, marks);
+    match v {
+        Verdict::Refused(r) => Answer::Refused(r),
+        Verdict::Fine => steps::last(c, links, x),
+    }
+}
+
+// The link after x, or none: of a head the first.
+pub fn suc(c: Counts, links: &[u32], axis: &[u32], times: &[u64], marks: &[u8], x: u32) -> Answer
+    ensures { λ r. ⌜ r ≡ asked c (ofLinks (sucTold c x)) (record { links = now (links .entry); axis = now (axis .entry); times = now (times .entry); marks = now (marks .entry) }) ⌝ }
+{
+    let v = judge_tables(c, links, axis, times, marks);
+    match v {
+        Verdict::Refused(r) => Answer::Refused(r),
+        Verdict::Fine => steps::suc(c, links, x),
+    }
+}
+
+// The link before x, or none: of a head the last.
+pub fn pred(c: Counts, links: &[u32], axis: &[u32], times: &[u64], marks: &[u8], x: u32) -> Answer
+    ensures { λ r. ⌜ r ≡ asked c (ofLinks (predTold c x)) (record { links = now (links .entry); axis = now (axis .entry); times = now (times .entry); marks = now (marks .entry) }) ⌝ }
+{
+    let v = judge_tables(c, links, axis, times, marks);
+    match v {
+        Verdict::Refused(r) => Answer::Refused(r),
+        Verdict::Fine => steps::pred(c, links, x),
+    }
+}
+
+// Has the head x no members?
+pub fn empty(c: Counts, links: &[u32], axis: &[u32], times: &[u64], marks: &[u8], x: u32) -> Answer
+    ensures { λ r. ⌜ r ≡ asked c (ofLinks (emptyTold c x)) (record { links = now (links .entry); axis = now (axis .entry); times = now (times .entry); marks = now (marks .entry) }) ⌝ }
+{
+    let v = judge_tables(c, links, axis, times, marks);
+    match v {
+        Verdict::Refused(r) => Answer::Refused(r),
+        Verdict::Fine => steps::empty(c, links, x),
+    }
+}
+
+// How many members the head x has.
+pub fn cardinal(
+    c: Counts,
+    links: &[u32],
+    axis: &[u32],
+    times: &[u64],
+    marks: &[u8],
+    x: u32,
+) -> Answer
+    ensures { λ r. ⌜ r ≡ asked c (ofLinks (cardinalTold c x)) (record { links = now (links .entry); axis = now (axis .entry); times = now (times .entry); marks = now (marks .entry) }) ⌝ }
+{
+    let v = judge_tables(c, links, axis, times, marks);
+    match v {
+        Verdict::Refused(r) => Answer::Refused(r),
+        Verdict::Fine => steps::cardinal(c, links, x),
+    }
+}
