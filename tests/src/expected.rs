@@ -10,7 +10,7 @@ use crate::sim::tables;
 
 /// Whether the calls program knows this call.
 pub fn known(call: u32) -> bool {
-    matches!(call, number::JUDGE..=number::ACCUM | number::FIRST..=number::FINISH | number::RUN..=number::CHECK)
+    matches!(call, number::JUDGE..=number::ACCUM | number::FIRST..=number::FINISH | number::RUN..=number::FRESH)
 }
 
 /// Code, line count, answer and every word afterwards.
@@ -29,6 +29,10 @@ pub fn expected(request: &Request) -> Response {
             Err(refusal) => (refusal, 0),
         };
         return Response { code, lines, answer: 0, lent };
+    }
+    if request.call.number == number::FRESH {
+        let code = fresh(request, &mut lent).err().unwrap_or(0);
+        return Response { code, lines: 0, answer: 0, lent };
     }
     let (code, answer) = match direct(request, &mut lent) {
         Ok(answer) => (0, answer),
@@ -65,6 +69,16 @@ fn run(request: &Request, lent: &mut Lent) -> Result<(u32, u32), Refusal> {
     let (end, lines) = run.go_on(&sheet, &mut lent.trace);
     write_run(&run, lent);
     Ok((end.code(), lines))
+}
+
+/// The tables of a fresh run: 8, then 1 where a length is another; what they held does not matter.
+fn fresh(request: &Request, lent: &mut Lent) -> Result<(), Refusal> {
+    let sheet = sheet::decode(&request.sheet)?;
+    tables::judge_lengths(sheet.counts, &lent.tables)?;
+    let places = sheet.counts.processes as usize + 1;
+    require(lent.positions.len() == places && lent.accums.len() == MOST, 1)?;
+    write_run(&Run::fresh(&sheet), lent);
+    Ok(())
 }
 
 /// The run that is lent, or refusal 1 or 2. Accumulators are not judged here.

@@ -81,6 +81,13 @@ pub fn case(rng: &mut Rng) -> Case {
     Case { request: request(rng, bytes, counts, lent), note }
 }
 
+/// The tables of a run, any of these, filled for a fresh one.
+pub fn fresh(rng: &mut Rng) -> Case {
+    let mut case = case(rng);
+    case.request.call.number = number::FRESH;
+    case
+}
+
 /// The check of a sheet, good or damaged, by itself.
 pub fn check(rng: &mut Rng) -> Case {
     let sheet = sheets::any(rng);

@@ -35,6 +35,7 @@ pub mod number {
     pub const FINISH: u32 = 32;
     pub const RUN: u32 = 40;
     pub const CHECK: u32 = 41;
+    pub const FRESH: u32 = 42;
 }
 
 /// A call with its operands; those that the call does not use are not looked at.
