@@ -40,6 +40,11 @@ pub record RunTables : Type 0 where
   pub positions : List ℕ
   pub words : List ℤ
 
+-- by the words of the slices that are lent
+abbrev pub lent : List ℕ → List ℕ → List ℕ → List ℕ → List ℕ → List ℤ → RunTables
+lent links axis times marks positions words =
+    record { model = record { links = links; axis = axis; times = times; marks = marks }; positions = positions; words = words }
+
 -- ---- refusals 1 and 2
 
 abbrev pub afterTables : Verdict → Verdict → Verdict

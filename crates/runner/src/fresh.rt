@@ -13,6 +13,7 @@ ghost use lib.IntN.{pos};
 ghost use lib.ListN.{length, replicate};
 ghost use Rattle.sheet.specs.Accepted.{checked};
 ghost use Rattle.sheet.specs.declared.header.Checked.the-variants.{Accepted};
+ghost use Rattle.runner.specs.Run.{lent};
 ghost use Rattle.runner.specs.Fresh.{startsAre, filledFor, filled};
 
 // Each process at the record where it begins.
@@ -52,8 +53,8 @@ pub(crate) fn fill(
     accums: &mut [i64],
 ) -> Verdict
     requires { ⌜ checked (now sheet) ≡ Accepted header ⌝ }
-    ensures { λ r. ⌜ record { run = record { model = record { links = now (links .exit); axis = now (axis .exit); times = now (times .exit); marks = now (marks .exit) }; positions = now (positions .exit); words = now (accums .exit) }; answer = r }
-        ≡ filledFor (Accepted header) (now (sheet .entry)) (record { model = record { links = now (links .entry); axis = now (axis .entry); times = now (times .entry); marks = now (marks .entry) }; positions = now (positions .entry); words = now (accums .entry) }) ⌝ }
+    ensures { λ r. ⌜ record { run = lent (now (links .exit)) (now (axis .exit)) (now (times .exit)) (now (marks .exit)) (now (positions .exit)) (now (accums .exit)); answer = r }
+        ≡ filledFor (Accepted header) (now (sheet .entry)) (lent (now (links .entry)) (now (axis .entry)) (now (times .entry)) (now (marks .entry)) (now (positions .entry)) (now (accums .entry))) ⌝ }
 {
     let c = header.counts;
     if positions.len() != wide(c.processes) + 1 {
@@ -83,8 +84,8 @@ pub fn fresh_run(
     positions: &mut [u32],
     accums: &mut [i64],
 ) -> Verdict
-    ensures { λ r. ⌜ record { run = record { model = record { links = now (links .exit); axis = now (axis .exit); times = now (times .exit); marks = now (marks .exit) }; positions = now (positions .exit); words = now (accums .exit) }; answer = r }
-        ≡ filled (now (sheet .entry)) (record { model = record { links = now (links .entry); axis = now (axis .entry); times = now (times .entry); marks = now (marks .entry) }; positions = now (positions .entry); words = now (accums .entry) }) ⌝ }
+    ensures { λ r. ⌜ record { run = lent (now (links .exit)) (now (axis .exit)) (now (times .exit)) (now (marks .exit)) (now (positions .exit)) (now (accums .exit)); answer = r }
+        ≡ filled (now (sheet .entry)) (lent (now (links .entry)) (now (axis .entry)) (now (times .entry)) (now (marks .entry)) (now (positions .entry)) (now (accums .entry))) ⌝ }
 {
     let read = check(sheet);
     match read {

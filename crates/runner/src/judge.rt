@@ -7,7 +7,7 @@ use model::judge::judge_tables;
 use model::judge::lengths_fine;
 use ring::wide;
 ghost use mathlib.Core.Path.{_≡_};
-ghost use Rattle.runner.specs.Run.{runJudged};
+ghost use Rattle.runner.specs.Run.{lent, runJudged};
 
 // 64 accumulators of three words.
 pub const WORDS: usize = 192;
@@ -26,7 +26,7 @@ pub(crate) fn judge_run(
     accums: &[i64],
     len: usize,
 ) -> Verdict
-    ensures { λ r. ⌜ r ≡ runJudged c records (record { model = record { links = now (links .entry); axis = now (axis .entry); times = now (times .entry); marks = now (marks .entry) }; positions = now (positions .entry); words = now (accums .entry) }) len ⌝ }
+    ensures { λ r. ⌜ r ≡ runJudged c records (lent (now (links .entry)) (now (axis .entry)) (now (times .entry)) (now (marks .entry)) (now (positions .entry)) (now (accums .entry))) len ⌝ }
 {
     let sized = lengths_fine(c, links, axis, times, marks);
     if !sized {

@@ -20,7 +20,7 @@ ghost use mathlib.Core.Path.{_≡_};
 ghost use Rattle.sheet.specs.Accepted.{checked};
 ghost use Rattle.sheet.specs.declared.header.Checked.the-variants.{Accepted};
 ghost use Rattle.runner.specs.Starting.{Startable, startedOn};
-ghost use Rattle.runner.specs.Run.{refusedRan, checkedRun, runOn};
+ghost use Rattle.runner.specs.Run.{lent, refusedRan, checkedRun, runOn};
 
 // What a run call answers: how many lines it wrote, and how it ended.
 pub struct Ran {
@@ -50,8 +50,8 @@ fn run_accepted(
     trace: &mut [u8],
 ) -> Ran
     requires { ⌜ checked (now sheet) ≡ Accepted header ⌝ }
-    ensures { λ r. ⌜ record { run = record { model = record { links = now (links .exit); axis = now (axis .exit); times = now (times .exit); marks = now (marks .exit) }; positions = now (positions .exit); words = now (accums .exit) }; trace = now (trace .exit); result = r }
-        ≡ checkedRun (Accepted header) (now (sheet .entry)) (record { model = record { links = now (links .entry); axis = now (axis .entry); times = now (times .entry); marks = now (marks .entry) }; positions = now (positions .entry); words = now (accums .entry) }) (now (trace .entry)) ⌝ }
+    ensures { λ r. ⌜ record { run = lent (now (links .exit)) (now (axis .exit)) (now (times .exit)) (now (marks .exit)) (now (positions .exit)) (now (accums .exit)); trace = now (trace .exit); result = r }
+        ≡ checkedRun (Accepted header) (now (sheet .entry)) (lent (now (links .entry)) (now (axis .entry)) (now (times .entry)) (now (marks .entry)) (now (positions .entry)) (now (accums .entry))) (now (trace .entry)) ⌝ }
 {
     let c = header.counts;
     let v = judge_run(
@@ -93,8 +93,8 @@ pub fn run(
     accums: &mut [i64],
     trace: &mut [u8],
 ) -> Ran
-    ensures { λ r. ⌜ record { run = record { model = record { links = now (links .exit); axis = now (axis .exit); times = now (times .exit); marks = now (marks .exit) }; positions = now (positions .exit); words = now (accums .exit) }; trace = now (trace .exit); result = r }
-        ≡ runOn (now (sheet .entry)) (record { model = record { links = now (links .entry); axis = now (axis .entry); times = now (times .entry); marks = now (marks .entry) }; positions = now (positions .entry); words = now (accums .entry) }) (now (trace .entry)) ⌝ }
+    ensures { λ r. ⌜ record { run = lent (now (links .exit)) (now (axis .exit)) (now (times .exit)) (now (marks .exit)) (now (positions .exit)) (now (accums .exit)); trace = now (trace .exit); result = r }
+        ≡ runOn (now (sheet .entry)) (lent (now (links .entry)) (now (axis .entry)) (now (times .entry)) (now (marks .entry)) (now (positions .entry)) (now (accums .entry))) (now (trace .entry)) ⌝ }
 {
     let read = check(sheet);
     match read {
@@ -125,8 +125,8 @@ pub fn start(
     accums: &mut [i64],
     trace: &mut [u8],
 ) -> Ran
-    requires { ⌜ Startable header (now sheet) (record { model = record { links = now links; axis = now axis; times = now times; marks = now marks }; positions = now positions; words = now accums }) (now trace) ⌝ }
-    ensures { λ r. ⌜ record { run = record { model = record { links = now (links .exit); axis = now (axis .exit); times = now (times .exit); marks = now (marks .exit) }; positions = now (positions .exit); words = now (accums .exit) }; trace = now (trace .exit); result = r }
+    requires { ⌜ Startable header (now sheet) (lent (now links) (now axis) (now times) (now marks) (now positions) (now accums)) (now trace) ⌝ }
+    ensures { λ r. ⌜ record { run = lent (now (links .exit)) (now (axis .exit)) (now (times .exit)) (now (marks .exit)) (now (positions .exit)) (now (accums .exit)); trace = now (trace .exit); result = r }
         ≡ startedOn (header .counts) (now (sheet .entry)) (now (trace .entry)) ⌝ }
 {
     fill(header, sheet, links, axis, times, marks, positions, accums);

@@ -11,7 +11,7 @@ use trace::put_line;
 ghost use mathlib.Core.Path.{_≡_};
 ghost use Prim.Native.Nat.{_+_, _≤_};
 ghost use lib.ListN.{length};
-ghost use Rattle.runner.specs.Run.{turnedOf, stepOn};
+ghost use Rattle.runner.specs.Run.{lent, turnedOf, stepOn};
 ghost use Rattle.runner.specs.Standing.{Standing};
 
 // Whether the run goes on.
@@ -46,10 +46,10 @@ pub(crate) fn step(
     trace: &mut [u8],
     i: usize,
 ) -> Turned
-    requires { ⌜ Standing c (now sheet) (record { model = record { links = now links; axis = now axis; times = now times; marks = now marks }; positions = now positions; words = now accums }) ⌝ }
+    requires { ⌜ Standing c (now sheet) (lent (now links) (now axis) (now times) (now marks) (now positions) (now accums)) ⌝ }
     requires { ⌜ i + 16 ≤ length (now trace) ⌝ }
-    ensures { λ r. ⌜ record { run = record { model = record { links = now (links .exit); axis = now (axis .exit); times = now (times .exit); marks = now (marks .exit) }; positions = now (positions .exit); words = now (accums .exit) }; trace = now (trace .exit); turned = r }
-        ≡ stepOn c (now (sheet .entry)) i (record { model = record { links = now (links .entry); axis = now (axis .entry); times = now (times .entry); marks = now (marks .entry) }; positions = now (positions .entry); words = now (accums .entry) }) (now (trace .entry)) ⌝ }
+    ensures { λ r. ⌜ record { run = lent (now (links .exit)) (now (axis .exit)) (now (times .exit)) (now (marks .exit)) (now (positions .exit)) (now (accums .exit)); trace = now (trace .exit); turned = r }
+        ≡ stepOn c (now (sheet .entry)) i (lent (now (links .entry)) (now (axis .entry)) (now (times .entry)) (now (marks .entry)) (now (positions .entry)) (now (accums .entry))) (now (trace .entry)) ⌝ }
 {
     let f = place_now(c, axis);
     let p = wide(f);

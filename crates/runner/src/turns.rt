@@ -8,7 +8,7 @@ use machine::End;
 ghost use mathlib.Core.Path.{_≡_};
 ghost use Prim.Native.Nat.{_/_, _≤_};
 ghost use lib.ListN.{length};
-ghost use Rattle.runner.specs.Run.{turnsOn};
+ghost use Rattle.runner.specs.Run.{lent, turnsOn};
 ghost use Rattle.runner.specs.Standing.{Standing};
 
 // A count of lines, at most 4,096.
@@ -30,10 +30,10 @@ pub(crate) fn turns(
     accums: &mut [i64],
     trace: &mut [u8],
 ) -> Ran
-    requires { ⌜ Standing c (now sheet) (record { model = record { links = now links; axis = now axis; times = now times; marks = now marks }; positions = now positions; words = now accums }) ⌝ }
+    requires { ⌜ Standing c (now sheet) (lent (now links) (now axis) (now times) (now marks) (now positions) (now accums)) ⌝ }
     requires { ⌜ length (now trace) ≤ 65536 ⌝ }
-    ensures { λ r. ⌜ record { run = record { model = record { links = now (links .exit); axis = now (axis .exit); times = now (times .exit); marks = now (marks .exit) }; positions = now (positions .exit); words = now (accums .exit) }; trace = now (trace .exit); result = r }
-        ≡ turnsOn c (now (sheet .entry)) 0 (length (now (trace .entry)) / 16) (record { model = record { links = now (links .entry); axis = now (axis .entry); times = now (times .entry); marks = now (marks .entry) }; positions = now (positions .entry); words = now (accums .entry) }) (now (trace .entry)) ⌝ }
+    ensures { λ r. ⌜ record { run = lent (now (links .exit)) (now (axis .exit)) (now (times .exit)) (now (marks .exit)) (now (positions .exit)) (now (accums .exit)); trace = now (trace .exit); result = r }
+        ≡ turnsOn c (now (sheet .entry)) 0 (length (now (trace .entry)) / 16) (lent (now (links .entry)) (now (axis .entry)) (now (times .entry)) (now (marks .entry)) (now (positions .entry)) (now (accums .entry))) (now (trace .entry)) ⌝ }
 {
     let room = trace.len() / 16;
     let mut n = 0;
