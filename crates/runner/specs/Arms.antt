@@ -2,11 +2,13 @@
 use Prim.Native.Nat.{ℕ, _+_, _≤_}
 use mathlib.Core.Path.{_≡_, sym, ap, _∙_, subst}
 use mathlib.Core.Logic.{_≢_}
-use mathlib.Core.Bool.{Bool, true, false}
+use mathlib.Core.Bool.{Bool}
 use mathlib.Core.List.{List}
 use native.Mathlib.Omega.{arith}
 use lib.IntN.{ℤ}
+use lib.Dec.{eqb}
 use borrow.Author.Tests.{eq-eqb, ne-eqb}
+use Rattle.ring.specs.Lists.{decide}
 use Rattle.counts.specs.declared.Counts.{Counts}
 use Rattle.counts.specs.Counts.{total, isHead}
 use Rattle.model.specs.declared.answer.Answer.{Answer}
@@ -72,13 +74,13 @@ module _ (d : Record) where
   unfolding callOf
   call-9 e = some 9 e (λ z. omega arith) ∙ (rw e)
 
-  pub call-10 : d .operation ≡ 10 → callDue d ≡ onList (activate false (d .clause) (d .x) (d .y) (d .t))
+  -- 10 and 11
+  pub call-timed : 10 ≤ d .operation → d .operation ≤ 11 → callDue d ≡ onList (activate (eqb (d .operation) 11) (d .clause) (d .x) (d .y) (d .t))
   unfolding callOf
-  call-10 e = some 10 e (λ z. omega arith) ∙ (rw e)
-
-  pub call-11 : d .operation ≡ 11 → callDue d ≡ onList (activate true (d .clause) (d .x) (d .y) (d .t))
-  unfolding callOf
-  call-11 e = some 11 e (λ z. omega arith) ∙ (rw e)
+  call-timed l m =
+      decide (d .operation) 10
+      (λ e. some 10 e (λ z. omega arith) ∙ (rw e))
+      (λ n. let e : d .operation ≡ 11 = omega arith in some 11 e (λ z. omega arith) ∙ (rw e))
 
   pub call-12 : d .operation ≡ 12 → callDue d ≡ onList (ifEmpty (d .x))
   unfolding callOf
@@ -167,17 +169,16 @@ module _ (c : Counts) (call : Call) (links axis times marks : List ℕ) (w : Lis
         (q ∙ ap (λ (n : ℤ). updatedIn k now n w) p ∙ ap (λ (j : ℕ). updatedIn k j z w) i)
         ∙ sym (ap (λ (f : Call). carriedOut c f t w) e)
 
--- past 12 there is only 13
+-- past 9, without 12 and 13
 past : (n k : ℕ) → k ≤ n → n ≢ k → k + 1 ≤ n
 past n k l d = omega arith
 
-only : (n : ℕ) → n ≤ 13 → 13 ≤ n → n ≡ 13
-only n l h = omega arith
+pub the-rest : (n : ℕ) → n ≤ 13 → n ≢ 0 → n ≢ 1 → n ≢ 2 → n ≢ 3 → n ≢ 4 → n ≢ 5 → n ≢ 6 → n ≢ 7 → n ≢ 8 → n ≢ 9 → n ≢ 12 → n ≢ 13 → (10 ≤ n) × (n ≤ 11)
+the-rest n l a b c d e f g h i j k m =
+    (past n 9 (past n 8 (past n 7 (past n 6 (past n 5 (past n 4 (past n 3 (past n 2 (past n 1 (past n 0 (none n) a) b) c) d) e) f) g) h) i) j, most n l k m)
+  where
+    none : (n : ℕ) → 0 ≤ n
+    none n = omega arith
 
-none : (n : ℕ) → 0 ≤ n
-none n = omega arith
-
-pub the-last : (n : ℕ) → n ≤ 13 → n ≢ 0 → n ≢ 1 → n ≢ 2 → n ≢ 3 → n ≢ 4 → n ≢ 5 → n ≢ 6 → n ≢ 7 → n ≢ 8 → n ≢ 9 → n ≢ 10 → n ≢ 11 → n ≢ 12 → n ≡ 13
-the-last n l a b c d e f g h i j k m o =
-    only n l
-    (past n 12 (past n 11 (past n 10 (past n 9 (past n 8 (past n 7 (past n 6 (past n 5 (past n 4 (past n 3 (past n 2 (past n 1 (past n 0 (none n) a) b) c) d) e) f) g) h) i) j) k) m) o)
+    most : (n : ℕ) → n ≤ 13 → n ≢ 12 → n ≢ 13 → n ≤ 11
+    most n l k m = omega arith

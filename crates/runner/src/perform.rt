@@ -40,7 +40,7 @@ fn wide_clause(k: u8) -> u32
     k as u32
 }
 
-// One arm for each operation; 0 is finish.
+// One arm for each operation, and one for activate and reactivate; 0 is finish.
 pub(crate) fn perform(
     c: Counts,
     d: Record,
@@ -60,6 +60,7 @@ pub(crate) fn perform(
     let x = d.x;
     let y = d.y;
     let t = d.t;
+    let again = op == 11;
     match op {
         0 => finish(c, axis, times, marks),
         1 => out(c, links, x),
@@ -71,9 +72,8 @@ pub(crate) fn perform(
         7 => passivate(c, axis, times),
         8 => wait(c, links, axis, times, y),
         9 => cancel(c, axis, times, x),
-        10 => activate(c, axis, times, marks, false, k, x, y, t),
-        11 => activate(c, axis, times, marks, true, k, x, y, t),
         12 => head_asked(c, x),
-        _ => update_in(accums, x, time, t),
+        13 => update_in(accums, x, time, t),
+        _ => activate(c, axis, times, marks, again, k, x, y, t),
     }
 }

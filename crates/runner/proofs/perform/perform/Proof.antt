@@ -1,8 +1,8 @@
-use Rattle.accumulator.specs.Signed.{word, kept}
-use mathlib.Core.Bool.{true, false}
 use Rattle.simulation.specs.Promise.{ready-judged}
-use Rattle.runner.specs.Arms.{call-0, call-1, call-2, call-3, call-4, call-5, call-6, call-7, call-8, call-9, call-10, call-11, call-12, call-13, set-arm, hold-arm, passivate-arm, cancel-arm, timed-arm, finish-arm, wait-arm, head-arm, accum-arm, the-last}
+use Rattle.runner.specs.Arms.{call-0, call-1, call-2, call-3, call-4, call-5, call-6, call-7, call-8, call-9, call-timed, call-12, call-13, set-arm, hold-arm, passivate-arm, cancel-arm, timed-arm, finish-arm, wait-arm, head-arm, accum-arm, the-rest}
 use Rattle.machine.specs.Calls.{out, follow, precede, into, clear}
+use Rattle.accumulator.specs.Signed.{word, kept}
+use lib.Dec.{eqb}
 use borrow.Author.Needs.{needs}
 use Rattle.runner.proofs.perform.perform.Statement.{statement}
 use Rattle.runner.proofs.perform.perform.Tie as tie
@@ -40,17 +40,14 @@ wait-requires c κs = (ready-judged _ _ ((c .before .before .before .before .bef
 cancel-requires : tie.Need-cancel-requires
 cancel-requires c κs = ready-judged _ _ ((c .before .before .before .before .before .before .before .before .before .pre .ready))
 
-activate-requires : tie.Need-activate-requires
-activate-requires c κs = ready-judged _ _ ((c .before .before .before .before .before .before .before .before .before .before .pre .ready))
-
-activate-requires-2 : tie.Need-activate-requires-2
-activate-requires-2 c κs = ready-judged _ _ ((c .before .before .before .before .before .before .before .before .before .before .pre .ready))
-
 head-asked-requires : tie.Need-head-asked-requires
 head-asked-requires c κs = search needs
 
 update-in-requires : tie.Need-update-in-requires
-update-in-requires c κs = ((c .before .before .before .before .before .before .before .before .pre .number) (the-last ((c .before .before .before .before .before .before .before .before .args .d .operation)) ((c .before .before .before .before .before .before .before .before .pre .few)) ((c .before .match .rest .0 .0 .0 .0 .0 .0 .0 .0 .0 .0 .0 .0 .1)) ((c .before .match .rest .0 .0 .0 .0 .0 .0 .0 .0 .0 .0 .0 .1)) ((c .before .match .rest .0 .0 .0 .0 .0 .0 .0 .0 .0 .0 .1)) ((c .before .match .rest .0 .0 .0 .0 .0 .0 .0 .0 .0 .1)) ((c .before .match .rest .0 .0 .0 .0 .0 .0 .0 .0 .1)) ((c .before .match .rest .0 .0 .0 .0 .0 .0 .0 .1)) ((c .before .match .rest .0 .0 .0 .0 .0 .0 .1)) ((c .before .match .rest .0 .0 .0 .0 .0 .1)) ((c .before .match .rest .0 .0 .0 .0 .1)) ((c .before .match .rest .0 .0 .0 .1)) ((c .before .match .rest .0 .0 .1)) ((c .before .match .rest .0 .1)) ((c .before .match .rest .1))) .0, (c .before .before .before .before .before .before .before .before .pre .number) (the-last ((c .before .before .before .before .before .before .before .before .args .d .operation)) ((c .before .before .before .before .before .before .before .before .pre .few)) ((c .before .match .rest .0 .0 .0 .0 .0 .0 .0 .0 .0 .0 .0 .0 .1)) ((c .before .match .rest .0 .0 .0 .0 .0 .0 .0 .0 .0 .0 .0 .1)) ((c .before .match .rest .0 .0 .0 .0 .0 .0 .0 .0 .0 .0 .1)) ((c .before .match .rest .0 .0 .0 .0 .0 .0 .0 .0 .0 .1)) ((c .before .match .rest .0 .0 .0 .0 .0 .0 .0 .0 .1)) ((c .before .match .rest .0 .0 .0 .0 .0 .0 .0 .1)) ((c .before .match .rest .0 .0 .0 .0 .0 .0 .1)) ((c .before .match .rest .0 .0 .0 .0 .0 .1)) ((c .before .match .rest .0 .0 .0 .0 .1)) ((c .before .match .rest .0 .0 .0 .1)) ((c .before .match .rest .0 .0 .1)) ((c .before .match .rest .0 .1)) ((c .before .match .rest .1))) .1, rw ((c .before .before .before .before .before .before .before .before .pre .time-is)) ((c .before .before .before .before .before .before .before .before .pre .ready .times-in) _))
+update-in-requires c κs = ((c .before .before .before .before .before .before .before .before .pre .number) ((c .before .match .keys12)) .0, (c .before .before .before .before .before .before .before .before .pre .number) ((c .before .match .keys12)) .1, rw ((c .before .before .before .before .before .before .before .before .pre .time-is)) ((c .before .before .before .before .before .before .before .before .pre .ready .times-in) _))
+
+activate-requires : tie.Need-activate-requires
+activate-requires c κs = ready-judged _ _ ((c .before .before .before .before .before .before .before .before .before .before .pre .ready))
 
 same-length : tie.Need-same-length
 same-length c = search needs
@@ -133,8 +130,14 @@ same-length-17 c = search needs
 returns-10 : tie.Need-returns-10
 returns-10 c = cancel-arm ((c .before .before .before .before .before .before .before .before .before .before .before .before .before .before .args .c)) _ ((c .before .before .before .before .before .before .before .before .before .before .before .before .before .before .args .links .now)) ((c .before .before .before .before .before .before .before .before .before .before .before .before .before .before .args .axis .now)) ((c .before .before .before .before .before .before .before .before .before .before .before .before .before .before .args .times .now)) ((c .before .before .before .before .before .before .before .before .before .before .before .before .before .before .args .marks .now)) ((c .before .before .before .before .before .before .before .before .before .before .before .before .before .before .args .accums .now)) _ _ _ ((c .before .before .before .before .before .before .before .before .before .before .before .before .before .before .args .d .x)) (call-9 ((c .before .before .before .before .before .before .before .before .before .before .before .before .before .before .args .d)) ((c .before .before .before .before .before .before .before .match .keys10))) ((c .before .before .before .before .cancel .ensures))
 
+returns-11 : tie.Need-returns-11
+returns-11 c = head-arm ((c .before .before .before .before .before .before .before .before .args .c)) _ ((c .before .before .before .before .before .before .before .before .args .links .now)) ((c .before .before .before .before .before .before .before .before .args .axis .now)) ((c .before .before .before .before .before .before .before .before .args .times .now)) ((c .before .before .before .before .before .before .before .before .args .marks .now)) ((c .before .before .before .before .before .before .before .before .args .accums .now)) _ ((c .before .before .before .before .before .before .before .before .args .d .x)) (call-12 ((c .before .before .before .before .before .before .before .before .args .d)) ((c .before .match .keys11))) ((c .head-asked .ensures))
+
 same-length-18 : tie.Need-same-length-18
 same-length-18 c = search needs
+
+returns-12 : tie.Need-returns-12
+returns-12 c = accum-arm ((c .before .before .before .before .before .before .before .before .before .before .args .c)) _ ((c .before .before .before .before .before .before .before .before .before .before .args .links .now)) ((c .before .before .before .before .before .before .before .before .before .before .args .axis .now)) ((c .before .before .before .before .before .before .before .before .before .before .args .times .now)) ((c .before .before .before .before .before .before .before .before .before .before .args .marks .now)) ((c .before .before .before .before .before .before .before .before .before .before .args .accums .now)) _ ((c .before .before .before .before .before .before .before .before .before .before .args .d .x)) ((c .before .before .before .before .before .before .before .before .before .before .args .time)) ((c .before .before .before .before .before .before .before .before .before .before .args .d .t)) _ _ (kept {z = (c .before .before .before .before .before .before .before .before .before .before .args .d .t)} (word ((c .before .before .before .before .struct-told .given .1 .1 .1 .1 .1 .0 .1)))) (call-13 ((c .before .before .before .before .before .before .before .before .before .before .args .d)) ((c .before .before .before .match .keys12))) ((c .before .before .before .before .before .before .before .before .before .before .pre .time-is)) ((c .before .update-in .ensures))
 
 same-length-19 : tie.Need-same-length-19
 same-length-19 c = search needs
@@ -142,29 +145,11 @@ same-length-19 c = search needs
 same-length-20 : tie.Need-same-length-20
 same-length-20 c = search needs
 
-returns-11 : tie.Need-returns-11
-returns-11 c = timed-arm ((c .before .before .before .before .before .before .before .before .before .before .before .before .before .before .before .args .c)) _ ((c .before .before .before .before .before .before .before .before .before .before .before .before .before .before .before .args .links .now)) ((c .before .before .before .before .before .before .before .before .before .before .before .before .before .before .before .args .axis .now)) ((c .before .before .before .before .before .before .before .before .before .before .before .before .before .before .before .args .times .now)) ((c .before .before .before .before .before .before .before .before .before .before .before .before .before .before .before .args .marks .now)) ((c .before .before .before .before .before .before .before .before .before .before .before .before .before .before .before .args .accums .now)) _ _ _ false ((c .before .before .before .before .before .before .before .before .before .before .before .before .before .before .before .args .d .clause)) _ ((c .before .before .before .before .before .before .before .before .before .before .before .before .before .before .before .args .d .x)) ((c .before .before .before .before .before .before .before .before .before .before .before .before .before .before .before .args .d .y)) ((c .before .before .before .before .before .before .before .before .before .before .before .before .before .before .before .args .d .t)) _ ((c .before .before .before .before .before .before .before .before .before .before .wide-clause .ensures)) (kept {z = (c .before .before .before .before .before .before .before .before .before .before .before .before .before .before .before .args .d .t)} (word ((c .before .before .before .before .before .before .before .before .before .struct-told .given .1 .1 .1 .1 .1 .0 .1)))) (call-10 ((c .before .before .before .before .before .before .before .before .before .before .before .before .before .before .before .args .d)) ((c .before .before .before .before .before .before .before .before .match .keys11))) ((c .before .before .before .before .activate .ensures))
-
 same-length-21 : tie.Need-same-length-21
 same-length-21 c = search needs
 
-same-length-22 : tie.Need-same-length-22
-same-length-22 c = search needs
-
-same-length-23 : tie.Need-same-length-23
-same-length-23 c = search needs
-
-returns-12 : tie.Need-returns-12
-returns-12 c = timed-arm ((c .before .before .before .before .before .before .before .before .before .before .before .before .before .before .before .args .c)) _ ((c .before .before .before .before .before .before .before .before .before .before .before .before .before .before .before .args .links .now)) ((c .before .before .before .before .before .before .before .before .before .before .before .before .before .before .before .args .axis .now)) ((c .before .before .before .before .before .before .before .before .before .before .before .before .before .before .before .args .times .now)) ((c .before .before .before .before .before .before .before .before .before .before .before .before .before .before .before .args .marks .now)) ((c .before .before .before .before .before .before .before .before .before .before .before .before .before .before .before .args .accums .now)) _ _ _ true ((c .before .before .before .before .before .before .before .before .before .before .before .before .before .before .before .args .d .clause)) _ ((c .before .before .before .before .before .before .before .before .before .before .before .before .before .before .before .args .d .x)) ((c .before .before .before .before .before .before .before .before .before .before .before .before .before .before .before .args .d .y)) ((c .before .before .before .before .before .before .before .before .before .before .before .before .before .before .before .args .d .t)) _ ((c .before .before .before .before .before .before .before .before .before .before .wide-clause .ensures)) (kept {z = (c .before .before .before .before .before .before .before .before .before .before .before .before .before .before .before .args .d .t)} (word ((c .before .before .before .before .before .before .before .before .before .struct-told .given .1 .1 .1 .1 .1 .0 .1)))) (call-11 ((c .before .before .before .before .before .before .before .before .before .before .before .before .before .before .before .args .d)) ((c .before .before .before .before .before .before .before .before .match .keys12))) ((c .before .before .before .before .activate2 .ensures))
-
 returns-13 : tie.Need-returns-13
-returns-13 c = head-arm ((c .before .before .before .before .before .before .before .before .args .c)) _ ((c .before .before .before .before .before .before .before .before .args .links .now)) ((c .before .before .before .before .before .before .before .before .args .axis .now)) ((c .before .before .before .before .before .before .before .before .args .times .now)) ((c .before .before .before .before .before .before .before .before .args .marks .now)) ((c .before .before .before .before .before .before .before .before .args .accums .now)) _ ((c .before .before .before .before .before .before .before .before .args .d .x)) (call-12 ((c .before .before .before .before .before .before .before .before .args .d)) ((c .before .match .keys13))) ((c .head-asked .ensures))
-
-same-length-24 : tie.Need-same-length-24
-same-length-24 c = search needs
-
-returns-14 : tie.Need-returns-14
-returns-14 c = accum-arm ((c .before .before .before .before .before .before .before .before .before .before .args .c)) _ ((c .before .before .before .before .before .before .before .before .before .before .args .links .now)) ((c .before .before .before .before .before .before .before .before .before .before .args .axis .now)) ((c .before .before .before .before .before .before .before .before .before .before .args .times .now)) ((c .before .before .before .before .before .before .before .before .before .before .args .marks .now)) ((c .before .before .before .before .before .before .before .before .before .before .args .accums .now)) _ ((c .before .before .before .before .before .before .before .before .before .before .args .d .x)) ((c .before .before .before .before .before .before .before .before .before .before .args .time)) ((c .before .before .before .before .before .before .before .before .before .before .args .d .t)) _ _ (kept {z = (c .before .before .before .before .before .before .before .before .before .before .args .d .t)} (word ((c .before .before .before .before .struct-told .given .1 .1 .1 .1 .1 .0 .1)))) (call-13 ((c .before .before .before .before .before .before .before .before .before .before .args .d)) (the-last ((c .before .before .before .before .before .before .before .before .before .before .args .d .operation)) ((c .before .before .before .before .before .before .before .before .before .before .pre .few)) ((c .before .before .before .match .rest .0 .0 .0 .0 .0 .0 .0 .0 .0 .0 .0 .0 .1)) ((c .before .before .before .match .rest .0 .0 .0 .0 .0 .0 .0 .0 .0 .0 .0 .1)) ((c .before .before .before .match .rest .0 .0 .0 .0 .0 .0 .0 .0 .0 .0 .1)) ((c .before .before .before .match .rest .0 .0 .0 .0 .0 .0 .0 .0 .0 .1)) ((c .before .before .before .match .rest .0 .0 .0 .0 .0 .0 .0 .0 .1)) ((c .before .before .before .match .rest .0 .0 .0 .0 .0 .0 .0 .1)) ((c .before .before .before .match .rest .0 .0 .0 .0 .0 .0 .1)) ((c .before .before .before .match .rest .0 .0 .0 .0 .0 .1)) ((c .before .before .before .match .rest .0 .0 .0 .0 .1)) ((c .before .before .before .match .rest .0 .0 .0 .1)) ((c .before .before .before .match .rest .0 .0 .1)) ((c .before .before .before .match .rest .0 .1)) ((c .before .before .before .match .rest .1)))) ((c .before .before .before .before .before .before .before .before .before .before .pre .time-is)) ((c .before .update-in .ensures))
+returns-13 c = timed-arm ((c .before .before .before .before .before .before .before .before .before .before .before .before .before .before .before .args .c)) _ ((c .before .before .before .before .before .before .before .before .before .before .before .before .before .before .before .args .links .now)) ((c .before .before .before .before .before .before .before .before .before .before .before .before .before .before .before .args .axis .now)) ((c .before .before .before .before .before .before .before .before .before .before .before .before .before .before .before .args .times .now)) ((c .before .before .before .before .before .before .before .before .before .before .before .before .before .before .before .args .marks .now)) ((c .before .before .before .before .before .before .before .before .before .before .before .before .before .before .before .args .accums .now)) _ _ _ (eqb ((c .before .before .before .before .before .before .before .before .before .before .before .before .before .before .before .args .d .operation)) 11) ((c .before .before .before .before .before .before .before .before .before .before .before .before .before .before .before .args .d .clause)) _ ((c .before .before .before .before .before .before .before .before .before .before .before .before .before .before .before .args .d .x)) ((c .before .before .before .before .before .before .before .before .before .before .before .before .before .before .before .args .d .y)) ((c .before .before .before .before .before .before .before .before .before .before .before .before .before .before .before .args .d .t)) _ ((c .before .before .before .before .before .before .before .before .before .before .wide-clause .ensures)) (kept {z = (c .before .before .before .before .before .before .before .before .before .before .before .before .before .before .before .args .d .t)} (word ((c .before .before .before .before .before .before .before .before .before .struct-told .given .1 .1 .1 .1 .1 .0 .1)))) (call-timed ((c .before .before .before .before .before .before .before .before .before .before .before .before .before .before .before .args .d)) (the-rest ((c .before .before .before .before .before .before .before .before .before .before .before .before .before .before .before .args .d .operation)) ((c .before .before .before .before .before .before .before .before .before .before .before .before .before .before .before .pre .few)) ((c .before .before .before .before .before .before .before .before .match .rest .0 .0 .0 .0 .0 .0 .0 .0 .0 .0 .0 .1)) ((c .before .before .before .before .before .before .before .before .match .rest .0 .0 .0 .0 .0 .0 .0 .0 .0 .0 .1)) ((c .before .before .before .before .before .before .before .before .match .rest .0 .0 .0 .0 .0 .0 .0 .0 .0 .1)) ((c .before .before .before .before .before .before .before .before .match .rest .0 .0 .0 .0 .0 .0 .0 .0 .1)) ((c .before .before .before .before .before .before .before .before .match .rest .0 .0 .0 .0 .0 .0 .0 .1)) ((c .before .before .before .before .before .before .before .before .match .rest .0 .0 .0 .0 .0 .0 .1)) ((c .before .before .before .before .before .before .before .before .match .rest .0 .0 .0 .0 .0 .1)) ((c .before .before .before .before .before .before .before .before .match .rest .0 .0 .0 .0 .1)) ((c .before .before .before .before .before .before .before .before .match .rest .0 .0 .0 .1)) ((c .before .before .before .before .before .before .before .before .match .rest .0 .0 .1)) ((c .before .before .before .before .before .before .before .before .match .rest .0 .1)) ((c .before .before .before .before .before .before .before .before .match .rest .1)) .0) (the-rest ((c .before .before .before .before .before .before .before .before .before .before .before .before .before .before .before .args .d .operation)) ((c .before .before .before .before .before .before .before .before .before .before .before .before .before .before .before .pre .few)) ((c .before .before .before .before .before .before .before .before .match .rest .0 .0 .0 .0 .0 .0 .0 .0 .0 .0 .0 .1)) ((c .before .before .before .before .before .before .before .before .match .rest .0 .0 .0 .0 .0 .0 .0 .0 .0 .0 .1)) ((c .before .before .before .before .before .before .before .before .match .rest .0 .0 .0 .0 .0 .0 .0 .0 .0 .1)) ((c .before .before .before .before .before .before .before .before .match .rest .0 .0 .0 .0 .0 .0 .0 .0 .1)) ((c .before .before .before .before .before .before .before .before .match .rest .0 .0 .0 .0 .0 .0 .0 .1)) ((c .before .before .before .before .before .before .before .before .match .rest .0 .0 .0 .0 .0 .0 .1)) ((c .before .before .before .before .before .before .before .before .match .rest .0 .0 .0 .0 .0 .1)) ((c .before .before .before .before .before .before .before .before .match .rest .0 .0 .0 .0 .1)) ((c .before .before .before .before .before .before .before .before .match .rest .0 .0 .0 .1)) ((c .before .before .before .before .before .before .before .before .match .rest .0 .0 .1)) ((c .before .before .before .before .before .before .before .before .match .rest .0 .1)) ((c .before .before .before .before .before .before .before .before .match .rest .1)) .1)) ((c .before .before .before .before .activate .ensures))
 
 pub perform-spec : {M : Type 1} → statement M
 perform-spec =
@@ -181,10 +166,9 @@ perform-spec =
     passivate-requires
     wait-requires
     cancel-requires
-    activate-requires
-    activate-requires-2
     head-asked-requires
     update-in-requires
+    activate-requires
     same-length
     same-length-2
     same-length-3
@@ -212,14 +196,10 @@ perform-spec =
     same-length-16
     same-length-17
     returns-10
+    returns-11
     same-length-18
+    returns-12
     same-length-19
     same-length-20
-    returns-11
     same-length-21
-    same-length-22
-    same-length-23
-    returns-12
-    returns-13
-    same-length-24
-    returns-14)
+    returns-13)
