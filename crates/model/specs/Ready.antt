@@ -1,13 +1,13 @@
--- What the core functions need of tables that were judged fine: ranges, and a first notice.
+-- What the core functions need of tables that were judged fine: ranges, and a first notice that stands behind its head.
 use Prim.Native.Nat.{ℕ, _+_, _-_, _<_, _≤_}
-use mathlib.Core.Path.{_≡_, refl}
+use mathlib.Core.Path.{_≡_, refl, subst}
 use mathlib.Core.Logic.{inl, ⊎-elim}
 use mathlib.Core.List.{List, [], _∷_}
 use native.Mathlib.Omega.{arith}
 use native.Mathlib.Nat.{not-suc-le-zero}
 use lib.ListN.{length, getD, List·getD-eq-default}
 use Rattle.ring.specs.Lists.{In, below, inside}
-use Rattle.ring.specs.Chain.{Chain}
+use Rattle.ring.specs.Chain.{Chain, forth}
 use Rattle.ring.specs.Table.{Sound}
 use Rattle.ring.specs.Stores.{sucs, pres, suc-at}
 use Rattle.ring.specs.Spell.{spells-sound}
@@ -30,6 +30,8 @@ pub record Ready (c : Counts) (t : Tables) : Type 0 where
   pub marks-in : (y : ℕ) → getD (t .marks) y 0 ≤ 1
   pub first-some : 0 < getD (t .axis) (c .processes + 1) 0
   pub first-in : getD (t .axis) (c .processes + 1) 0 ≤ c .processes
+  -- the first notice stands behind the axis's own head
+  pub first-led : getD (t .axis) (c .processes + 2 + getD (t .axis) (c .processes + 1) 0) 0 ≡ c .processes + 1
 
 pub formed-ready : (c : Counts) (l : Lists) (t : Tables) → Sized c t → Spells c l t → Ready c t
 formed-ready c l t z w =
@@ -53,6 +55,17 @@ formed-ready c l t z w =
           (λ b. ⊎-elim (λ e. omega arith) (λ v. omega (arith, v .0)) (s .marked y b));
       first-some = omega (arith, f);
       first-in = omega (arith, f);
+      first-led =
+          subst (λ (i : ℕ). pres (c .processes + 2) (t .axis) i ≡ c .processes + 1) at
+          (forth
+          (sucs (c .processes + 2) (t .axis))
+          (pres (c .processes + 2) (t .axis))
+          (c .processes + 1)
+          (places c (l .notices))
+          (c .processes + 1)
+          (c .processes + 1)
+          (s .ring .rings .ring (c .processes + 1) (axis-head (c .processes)))
+          (inl refl));
     }
   where
     first : (k : List ℕ) → 0 < length k → Chain (sucs (c .processes + 2) (t .axis)) (pres (c .processes + 2) (t .axis)) (c .processes + 1) k (c .processes + 1)

@@ -3,9 +3,28 @@
 pub mod judge;
 
 ghost use mathlib.Core.Path.{_≡_};
-ghost use Prim.Native.Nat.{_*_, _<_};
-ghost use lib.ListN.{length};
+ghost use Prim.Native.Nat.{_*_, _+_, _<_};
+ghost use lib.ListN.{length, getD};
 ghost use Rattle.ring.specs.Table.{Sound, Made, unlinked, linkedBehind, linkedBefore, selfLinked, counted};
+
+// Takes x out of its ring, where it stands behind p; nothing where it stands in none.
+pub fn unlink_behind(t: &mut [u32], m: usize, x: usize, pw: u32)
+    requires { ⌜ Sound m (now t) ⌝ }
+    requires { ⌜ x < m ⌝ }
+    requires { ⌜ pw ≡ getD (now t) (m + x) 0 ⌝ }
+    ensures { λ _. ⌜ Made m (unlinked m x (now (t .entry))) (now (t .exit)) ⌝ }
+{
+    let sw = t[x];
+    if sw == 0 {
+        return;
+    }
+    let s = sw as usize;
+    let p = pw as usize;
+    t[m + s] = pw;
+    t[p] = sw;
+    t[x] = 0;
+    t[m + x] = 0;
+}
 
 // Takes x out of its ring; nothing where it stands in none.
 pub fn unlink(t: &mut [u32], m: usize, x: usize)
@@ -13,17 +32,8 @@ pub fn unlink(t: &mut [u32], m: usize, x: usize)
     requires { ⌜ x < m ⌝ }
     ensures { λ _. ⌜ Made m (unlinked m x (now (t .entry))) (now (t .exit)) ⌝ }
 {
-    let sw = t[x];
-    if sw == 0 {
-        return;
-    }
     let pw = t[m + x];
-    let s = sw as usize;
-    let p = pw as usize;
-    t[m + s] = pw;
-    t[p] = sw;
-    t[x] = 0;
-    t[m + x] = 0;
+    unlink_behind(t, m, x, pw);
 }
 
 // Puts x, which stands in no ring, behind y.

@@ -1,14 +1,15 @@
 -- What the readers answer, from their tests.
 use Prim.Native.Nat.{ℕ, _+_, _-_, _≤_, _<_}
-use mathlib.Core.Path.{_≡_, sym, ap, _∙_, subst}
+use mathlib.Core.Path.{_≡_, refl, sym, ap, _∙_, subst}
 use mathlib.Core.Logic.{_≢_}
-use mathlib.Core.Bool.{false}
+use mathlib.Core.Bool.{Bool, true, false, _&&_}
 use mathlib.Core.List.{List}
 use native.Mathlib.Omega.{arith}
 use lib.Dec.{eqb}
 use lib.IntN.{ℤ}
 use lib.ListN.{length, getD}
 use borrow.Author.Tests.{eq-eqb, ne-eqb, lt-ltb, le-ltb}
+use Rattle.ring.specs.Lists.{decide}
 use Rattle.counts.specs.declared.Counts.{Counts}
 use Rattle.simset.specs.Procedures.{emptyOf, linkOr}
 use Rattle.sheet.specs.declared.records.Record.{Record}
@@ -26,6 +27,24 @@ module _ (c : Counts) (axis positions : List ℕ) (f : ℕ) (is : f ≡ placeNow
   pub ends-main : f ≡ 1 → eqb (getD positions 1 0) 0 ≡ endsNow c axis positions
   unfolding endsNow
   ends-main e = rw (eq-eqb (placeNow c axis) 1 (sym is ∙ e))
+
+  pub record-here : (r : ℕ) → r ≡ getD positions f 0 → r ≡ getD positions (placeNow c axis) 0
+  record-here r e = e ∙ ap (λ (j : ℕ). getD positions j 0) is
+
+  -- main's position is current's, where main is current
+  pub ends-at : (r : ℕ) (b : Bool) → r ≡ getD positions f 0 → b ≡ (eqb r 0 && eqb f 1) → b ≡ endsNow c axis positions
+  ends-at r b er eb =
+      decide f 1
+      (λ e. eb ∙ rw (eq-eqb f 1 e) (and-true (eqb r 0)) ∙ ap (λ (n : ℕ). eqb n 0) (er ∙ ap (λ (j : ℕ). getD positions j 0) e) ∙ ends-main e)
+      (λ n. eb ∙ rw (ne-eqb f 1 n) (and-false (eqb r 0)) ∙ ends-other n)
+    where
+      and-true : (a : Bool) → (a && true) ≡ a
+      and-true true = refl
+      and-true false = refl
+
+      and-false : (a : Bool) → (a && false) ≡ false
+      and-false true = refl
+      and-false false = refl
 
 module _ (c : Counts) (links axis : List ℕ) (v : ℕ) where
   pub operand-low : v < 65536 → v ≡ operandAt c links axis v

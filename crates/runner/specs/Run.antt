@@ -85,13 +85,13 @@ dueNow c bytes links axis r = resolved c links axis (recordGot (c .processes) by
 unfoldable pub callDue : Record → Call
 callDue d = if eqb (d .operation) 0 then onList finish else callOf d (d .x) (d .y)
 
--- does the run go on after this answer?
-unfoldable pub turnedOf : Answer → Turned
-turnedOf Done = On
-turnedOf (Linkage x) = On
-turnedOf (Number n) = On
-turnedOf (Truth b) = On
-turnedOf (NotDone r) = Off r
+-- does the run go on after this answer, and the process at which record?
+unfoldable pub turnedOf : Answer → ℕ → Turned
+turnedOf Done next = On next
+turnedOf (Linkage x) next = On next
+turnedOf (Number n) next = On next
+turnedOf (Truth b) next = On next
+turnedOf (NotDone r) next = Off r
 
 pub record Stepped : Type 0 where
   pub run : RunTables
@@ -99,10 +99,10 @@ pub record Stepped : Type 0 where
   pub turned : Turned
 
 -- an accepted call moves the process and writes its line at byte i
-abbrev pub moved : Turned → Carried → List ℕ → ℕ → ℕ → List ℕ → ℕ → List ℕ → Stepped
-moved On a positions f next tr i line =
-    record { run = record { model = a .tables; positions = set positions f next; words = a .words }; trace = put tr i line; turned = On }
-moved (Off r) a positions f next tr i line =
+abbrev pub moved : Turned → Carried → List ℕ → ℕ → List ℕ → ℕ → List ℕ → Stepped
+moved (On next) a positions f tr i line =
+    record { run = record { model = a .tables; positions = set positions f next; words = a .words }; trace = put tr i line; turned = On next }
+moved (Off r) a positions f tr i line =
     record { run = record { model = a .tables; positions = positions; words = a .words }; trace = tr; turned = Off r }
 
 -- current's place, its record's number, the record, and the call
@@ -119,7 +119,7 @@ unfoldable pub stepOn : Counts → List ℕ → ℕ → RunTables → List ℕ �
 stepOn c bytes i u tr =
     let d = dueIn c bytes u in
     let a = carriedOut c (callDue d) (u .model) (u .words) in
-    moved (turnedOf (a .answer)) a (u .positions) (placeNow c (u .model .axis)) (d .next) tr i (lineIn c u)
+    moved (turnedOf (a .answer) (d .next)) a (u .positions) (placeNow c (u .model .axis)) tr i (lineIn c u)
 
 -- ---- turns
 
@@ -145,7 +145,7 @@ turnsOn c bytes n zero u tr = if endsNow c (u .model .axis) (u .positions) then 
 turnsOn c bytes n (suc k) u tr =
     let s = stepOn c bytes (16 * n) u tr in
     if endsNow c (u .model .axis) (u .positions) then stoppedOn n Finished u tr
-    else elim (s .turned) [ On ↦ turnsOn c bytes (suc n) k (s .run) (s .trace) | Off r ↦ stoppedOn n (Refused r) (s .run) (s .trace) ]
+    else elim (s .turned) [ On next ↦ turnsOn c bytes (suc n) k (s .run) (s .trace) | Off r ↦ stoppedOn n (Refused r) (s .run) (s .trace) ]
 
 -- ---- a call
 

@@ -193,23 +193,23 @@ module _ (c : Counts) (bytes : List ℕ) (u : RunTables) (s : Standing c bytes u
     pub in-times : p < length (u .model .times)
     in-times = omega (arith, sized .lengths .times-is, place-in)
 
-    pub record-is : getD (u .positions) p 0 ≡ recordAtNow c u
-    record-is = ap (λ (n : ℕ). getD (u .positions) n 0) here
-
     pub time-is : getD (u .model .times) p 0 ≡ timeAt c (u .model .axis) (u .model .times)
     time-is = ap (λ (n : ℕ). getD (u .model .times) n 0) here
 
-    pub its-record : Readable c bytes (u .model .links) (u .model .axis) (getD (u .positions) p 0)
-    its-record = subst (Readable c bytes (u .model .links) (u .model .axis)) (sym record-is) (readable (recordAtNow c u) now-in)
-
-    pub due-here : (d : Record) → d ≡ dueNow c bytes (u .model .links) (u .model .axis) (getD (u .positions) p 0) → d ≡ dueIn c bytes u
-    due-here d e = e ∙ ap (dueNow c bytes (u .model .links) (u .model .axis)) record-is
-
-    pub its-call : (d : Record) → d ≡ dueNow c bytes (u .model .links) (u .model .axis) (getD (u .positions) p 0)
-        → Performable c d (getD (u .model .times) p 0) (u .model) (u .words)
-    its-call d e =
-        subst (λ (q : Record). Performable c q (getD (u .model .times) p 0) (u .model) (u .words)) (sym (due-here d e))
-        (subst (λ (n : ℕ). Performable c (dueIn c bytes u) n (u .model) (u .words)) (sym time-is) performable)
-
     pub number-in : c .heads + f < 4294967296
     number-in = omega (arith, allowed .heads-in, allowed .processes-in, place-in)
+
+    -- ---- and with r, the record that it is at
+
+    module _ (r : ℕ) (at : r ≡ recordAtNow c u) where
+      pub its-record : Readable c bytes (u .model .links) (u .model .axis) r
+      its-record = subst (Readable c bytes (u .model .links) (u .model .axis)) (sym at) (readable (recordAtNow c u) now-in)
+
+      module _ (d : Record) (e : d ≡ dueNow c bytes (u .model .links) (u .model .axis) r) where
+        pub due-here : d ≡ dueIn c bytes u
+        due-here = e ∙ ap (dueNow c bytes (u .model .links) (u .model .axis)) at
+
+        pub its-call : Performable c d (getD (u .model .times) p 0) (u .model) (u .words)
+        its-call =
+            subst (λ (q : Record). Performable c q (getD (u .model .times) p 0) (u .model) (u .words)) (sym due-here)
+            (subst (λ (n : ℕ). Performable c (dueIn c bytes u) n (u .model) (u .words)) (sym time-is) performable)

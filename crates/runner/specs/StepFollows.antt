@@ -12,6 +12,7 @@ use Rattle.ring.specs.Lists.{test, clash}
 use Rattle.counts.specs.declared.Counts.{Counts}
 use Rattle.counts.specs.declared.Refusal.the-variants.{Operand}
 use Rattle.counts.specs.Counts.{main, isHead}
+use Rattle.model.specs.declared.answer.Answer.{Answer}
 use Rattle.model.specs.Tables.{Tables, Lists, Spells}
 use Rattle.simulation.specs.Plain.{Result, refused, done, current}
 use Rattle.accumulator.specs.Triples.{flat}
@@ -90,7 +91,7 @@ module _ (bytes : List ℕ) (ok : accepted bytes ≡ true) (m : Machine) (u : Ru
   abbrev pub StepIs : Result Machine → List ℕ → ℕ → Stepped → Type 0
   StepIs (refused q) tr i o = (o .turned ≡ Off q) × (o .run ≡ u) × (o .trace ≡ tr)
   StepIs (done k) tr i o =
-      (o .turned ≡ On) × Stands c (recordsOf bytes) (withPosition c k (current l) (nextNow s m)) (o .run) × (o .trace ≡ put tr i (bytesOf (lineNow s m)))
+      (o .turned ≡ On (dueIn c bytes u .next)) × Stands c (recordsOf bytes) (withPosition c k (current l) (nextNow s m)) (o .run) × (o .trace ≡ put tr i (bytesOf (lineNow s m)))
 
   abbrev f : ℕ
   f = placeNow (countsOf bytes) (u .model .axis)
@@ -133,18 +134,18 @@ module _ (bytes : List ℕ) (ok : accepted bytes ≡ true) (m : Machine) (u : Ru
   pub step-follows : (tr : List ℕ) (i : ℕ) → StepIs (perform c (callNow s m) m) tr i (stepOn c bytes i u tr)
   unfolding stepOn turnedOf
   step-follows tr i =
-      subst (λ (a : Carried). StepIs (perform c (callNow s m) m) tr i (moved (turnedOf (a .answer)) a (u .positions) f (dueIn c bytes u .next) tr i (lineIn c u)))
+      subst (λ (a : Carried). StepIs (perform c (callNow s m) m) tr i (moved (turnedOf (a .answer) (dueIn c bytes u .next)) a (u .positions) f tr i (lineIn c u)))
       (sym (ap (λ (call : Call). carriedOut c call (u .model) (u .words)) call-is ∙ ap (carriedOut c (callNow s m) (u .model)) (g .words)))
       (go (perform c (callNow s m) m) refl (perform-follows c m (u .model) (fit bytes ok m u g) (g .model) (callNow s m)))
     where
       go : (r : Result Machine) → perform c (callNow s m) m ≡ r → FollowsRun c (u .model) (flat (m .triples)) r (carriedOut c (callNow s m) (u .model) (flat (m .triples)))
-          → StepIs r tr i (moved (turnedOf (carriedOut c (callNow s m) (u .model) (flat (m .triples)) .answer)) (carriedOut c (callNow s m) (u .model) (flat (m .triples)))
-          (u .positions) f (dueIn c bytes u .next) tr i (lineIn c u))
+          → StepIs r tr i (moved (turnedOf (carriedOut c (callNow s m) (u .model) (flat (m .triples)) .answer) (dueIn c bytes u .next))
+          (carriedOut c (callNow s m) (u .model) (flat (m .triples))) (u .positions) f tr i (lineIn c u))
       go (refused q) e w =
-          subst (λ (v : Turned). StepIs (refused q) tr i (moved v (carriedOut c (callNow s m) (u .model) (flat (m .triples))) (u .positions) f (dueIn c bytes u .next) tr i (lineIn c u)))
-          (sym (ap turnedOf (w .0)))
+          subst (λ (v : Turned). StepIs (refused q) tr i (moved v (carriedOut c (callNow s m) (u .model) (flat (m .triples))) (u .positions) f tr i (lineIn c u)))
+          (sym (ap (λ (a : Answer). turnedOf a (dueIn c bytes u .next)) (w .0)))
           (refl, (λ j. record { model = w .1 j; positions = u .positions; words = (w .2 ∙ sym (g .words)) j }), refl)
       go (done k) e w =
-          subst (λ (v : Turned). StepIs (done k) tr i (moved v (carriedOut c (callNow s m) (u .model) (flat (m .triples))) (u .positions) f (dueIn c bytes u .next) tr i (lineIn c u)))
-          (sym (ap turnedOf (w .0)))
+          subst (λ (v : Turned). StepIs (done k) tr i (moved v (carriedOut c (callNow s m) (u .model) (flat (m .triples))) (u .positions) f tr i (lineIn c u)))
+          (sym (ap (λ (a : Answer). turnedOf a (dueIn c bytes u .next)) (w .0)))
           (refl, stands-next k e _ _ (w .1) (w .2), ap (put tr i) (line-is bytes ok m u g))

@@ -4,7 +4,8 @@ use mathlib.Core.Path.{_≡_, refl, sym, ap, _∙_, subst}
 use mathlib.Core.Bool.{true, false}
 use mathlib.Core.List.{List}
 use native.Mathlib.Omega.{arith}
-use lib.ListN.{length}
+use lib.ListN.{length, getD}
+use lib.Seq.{getD-set-same}
 use Rattle.ring.specs.Lists.{clash}
 use Rattle.counts.specs.declared.Counts.{Counts}
 use Rattle.counts.specs.declared.Refusal.{Refusal}
@@ -14,28 +15,46 @@ use Rattle.machine.specs.declared.End.the-variants.{Finished, Full, Refused}
 use Rattle.machine.specs.Machine.{Machine, withPosition}
 use Rattle.machine.specs.Calls.{perform}
 use Rattle.machine.specs.Steps.{callNow, nextNow}
+use Rattle.machine.specs.OnTables.{placeNow, Carried, carriedOut}
 use Rattle.runner.specs.declared.steps.Turned.{Turned}
 use Rattle.runner.specs.declared.steps.Turned.the-variants.{On, Refused as Off}
-use Rattle.runner.specs.Run.{RunTables, Stepped, stepOn, endsNow, RanOn, stoppedOn, turnsOn}
-use Rattle.runner.specs.Standing.{Standing, sized, positions-length, words-length}
+use Rattle.runner.specs.Run.{RunTables, Stepped, callDue, turnedOf, moved, dueIn, lineIn, stepOn, endsNow, RanOn, stoppedOn, turnsOn}
+use Rattle.runner.specs.Standing.{Standing, sized, ready, positions-length, words-length}
 use Rattle.runner.specs.StepFollows.{StepIs, step-follows}
 
 -- ---- an accepted step leaves tables of a machine
 
 module _ (bytes : List ℕ) (u : RunTables) (i : ℕ) (tr : List ℕ) where
-  next-standing : (s : Standing (countsOf bytes) bytes u) → stepOn (countsOf bytes) bytes i u tr .turned ≡ On
+  next-standing : (next : ℕ) (s : Standing (countsOf bytes) bytes u) → stepOn (countsOf bytes) bytes i u tr .turned ≡ On next
       → Standing (countsOf bytes) bytes (stepOn (countsOf bytes) bytes i u tr .run)
-  next-standing s e = go (perform (countsOf bytes) (callNow (sheetOf bytes) (s .machine)) (s .machine)) (step-follows bytes (s .ok) (s .machine) u (s .stands) tr i)
+  next-standing next s e = go (perform (countsOf bytes) (callNow (sheetOf bytes) (s .machine)) (s .machine)) (step-follows bytes (s .ok) (s .machine) u (s .stands) tr i)
     where
       go : (r : Result Machine) → StepIs bytes (s .ok) (s .machine) u (s .stands) r tr i (stepOn (countsOf bytes) bytes i u tr)
           → Standing (countsOf bytes) bytes (stepOn (countsOf bytes) bytes i u tr .run)
-      go (refused q) w = let z : Off q ≡ On = sym (w .0) ∙ e in let y : false ≡ true = cc in clash y
+      go (refused q) w = let z : Off q ≡ On next = sym (w .0) ∙ e in let y : false ≡ true = cc in clash y
       go (done k) w = record { ok = s .ok; counts = refl; machine = withPosition (countsOf bytes) k (current (s .machine .lists)) (nextNow (sheetOf bytes) (s .machine)); stands = w .1 }
 
-  pub step-standing : (c : Counts) → Standing c bytes u → stepOn c bytes i u tr .turned ≡ On → Standing c bytes (stepOn c bytes i u tr .run)
-  step-standing c s =
-      subst (λ (k : Counts). Standing k bytes u → stepOn k bytes i u tr .turned ≡ On → Standing k bytes (stepOn k bytes i u tr .run))
-      (sym (s .counts)) next-standing s
+  pub step-standing : (c : Counts) (next : ℕ) → Standing c bytes u → stepOn c bytes i u tr .turned ≡ On next → Standing c bytes (stepOn c bytes i u tr .run)
+  step-standing c next s =
+      subst (λ (k : Counts). Standing k bytes u → stepOn k bytes i u tr .turned ≡ On next → Standing k bytes (stepOn k bytes i u tr .run))
+      (sym (s .counts)) (next-standing next) s
+
+  -- the record that it goes on at is its position
+  pub next-kept : (c : Counts) (next : ℕ) → Standing c bytes u → stepOn c bytes i u tr .turned ≡ On next
+      → next ≡ getD (stepOn c bytes i u tr .run .positions) (placeNow c (u .model .axis)) 0
+  unfolding stepOn
+  next-kept c next s e = go (turnedOf (carriedOut c (callDue (dueIn c bytes u)) (u .model) (u .words) .answer) (dueIn c bytes u .next)) e
+    where
+      a : Carried
+      a = carriedOut c (callDue (dueIn c bytes u)) (u .model) (u .words)
+
+      within : placeNow c (u .model .axis) < length (u .positions)
+      within = omega (arith, positions-length c bytes u s, ready c bytes u s .first-in)
+
+      go : (v : Turned) → moved v a (u .positions) (placeNow c (u .model .axis)) tr i (lineIn c u) .turned ≡ On next
+          → next ≡ getD (moved v a (u .positions) (placeNow c (u .model .axis)) tr i (lineIn c u) .run .positions) (placeNow c (u .model .axis)) 0
+      go (On n) w = let z : n ≡ next = cc in sym z ∙ sym (getD-set-same (u .positions) (placeNow c (u .model .axis)) n 0 within)
+      go (Off q) w = let y : false ≡ true = cc in clash y
 
 -- ---- tables of one sheet have one size
 
@@ -115,12 +134,12 @@ module _ (c : Counts) (bytes : List ℕ) (room n : ℕ) (u₀ : RunTables) (tr�
 
     -- what is left after a step, by what it came to
     abbrev goes : ℕ → Stepped → Turned → RanOn
-    goes k p On = turnsOn c bytes (suc n) k (p .run) (p .trace)
+    goes k p (On next) = turnsOn c bytes (suc n) k (p .run) (p .trace)
     goes k p (Off q) = stoppedOn n (Refused q) (p .run) (p .trace)
 
     goes-is : (k : ℕ) (p : Stepped) (v : Turned)
-        → elim v [ On ↦ turnsOn c bytes (suc n) k (p .run) (p .trace) | Off q ↦ stoppedOn n (Refused q) (p .run) (p .trace) ] ≡ goes k p v
-    goes-is k p On = refl
+        → elim v [ On next ↦ turnsOn c bytes (suc n) k (p .run) (p .trace) | Off q ↦ stoppedOn n (Refused q) (p .run) (p .trace) ] ≡ goes k p v
+    goes-is k p (On next) = refl
     goes-is k p (Off q) = refl
 
     module _ (f : endsNow c (u .model .axis) (u .positions) ≡ false) (o : Stepped) (e : o ≡ stepOn c bytes (16 * n) u tr) where
@@ -136,11 +155,11 @@ module _ (c : Counts) (bytes : List ℕ) (room n : ℕ) (u₀ : RunTables) (tr�
           ∙ t .same (suc rest) one-left
           ∙ ap (λ (j : ℕ). turnsOn c bytes 0 j u₀ tr₀) (t .room-is)
 
-      pub turning-on : o .turned ≡ On → length (o .trace) ≡ length tr → Turning c bytes room (n + 1) u₀ tr₀ (o .run) (o .trace)
-      turning-on v z =
+      pub turning-on : (next : ℕ) → o .turned ≡ On next → length (o .trace) ≡ length tr → Turning c bytes room (n + 1) u₀ tr₀ (o .run) (o .trace)
+      turning-on next v z =
           record {
             begun = t .begun;
-            stands = subst (λ (p : Stepped). Standing c bytes (p .run)) (sym e) (step-standing bytes u (16 * n) tr c (t .stands) (ap (λ (p : Stepped). p .turned) (sym e) ∙ v));
+            stands = subst (λ (p : Stepped). Standing c bytes (p .run)) (sym e) (step-standing bytes u (16 * n) tr c next (t .stands) (ap (λ (p : Stepped). p .turned) (sym e) ∙ v));
             size = z ∙ t .size;
             room-is = t .room-is;
             short = t .short;
@@ -152,3 +171,10 @@ module _ (c : Counts) (bytes : List ℕ) (room n : ℕ) (u₀ : RunTables) (tr�
                 ∙ by-step k
                 ∙ t .same (suc k) (omega arith);
           }
+
+      -- the position that is kept beside the table
+      pub turning-at : (next p : ℕ) → o .turned ≡ On next → p ≡ placeNow c (u .model .axis) → next ≡ getD (o .run .positions) p 0
+      turning-at next p v is =
+          next-kept bytes u (16 * n) tr c next (t .stands) (ap (λ (q : Stepped). q .turned) (sym e) ∙ v)
+          ∙ ap (λ (q : Stepped). getD (q .run .positions) (placeNow c (u .model .axis)) 0) (sym e)
+          ∙ ap (λ (j : ℕ). getD (o .run .positions) j 0) (sym is)

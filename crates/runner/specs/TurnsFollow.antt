@@ -81,7 +81,7 @@ module _ (bytes : List ℕ) (ok : accepted bytes ≡ true) where
       went t = elim t [ ended e ↦ stopped e m | stepped l j ↦ alsoLine l (turns s k j) ]
 
       goes : Stepped → RanOn
-      goes o = elim (o .turned) [ On ↦ turnsOn c bytes (suc n) k (o .run) (o .trace) | Off q ↦ stoppedOn n (Refused q) (o .run) (o .trace) ]
+      goes o = elim (o .turned) [ On next ↦ turnsOn c bytes (suc n) k (o .run) (o .trace) | Off q ↦ stoppedOn n (Refused q) (o .run) (o .trace) ]
 
       go : ((j : Machine) (v : RunTables) (t : List ℕ) → Stands c (recordsOf bytes) j v → 16 * (suc n + k) ≤ length t → TurnsAre (suc n) t (turns s k j) (turnsOn c bytes (suc n) k v t))
           → (r : Result Machine) (o : Stepped) → StepIs bytes ok m u g r tr (16 * n) o → TurnsAre n tr (went (moving s m r)) (goes o)

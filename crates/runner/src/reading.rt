@@ -7,7 +7,9 @@ use simset::procedures::link_or;
 ghost use mathlib.Core.Path.{_≡_};
 ghost use mathlib.Core.Logic.{_≢_};
 ghost use Prim.Native.Nat.{_+_, _≤_, _<_};
-ghost use lib.ListN.{length};
+ghost use mathlib.Core.Bool.{_&&_};
+ghost use lib.Dec.{eqb};
+ghost use lib.ListN.{length, getD};
 ghost use Rattle.ring.specs.Table.{Sound};
 ghost use Rattle.counts.specs.Counts.{total};
 ghost use Rattle.simset.specs.Procedures.{emptyOf};
@@ -37,6 +39,29 @@ pub(crate) fn ends_now(c: Counts, axis: &[u32], positions: &[u32]) -> bool
         return false;
     }
     positions[1] == 0
+}
+
+// Where the process at a place is; at is the position at the place last.
+pub(crate) fn position(positions: &[u32], f: u32, last: u32, at: u32) -> u32
+    requires { ⌜ f < length (now positions) ⌝ }
+    requires { ⌜ at ≡ getD (now positions) last 0 ⌝ }
+    ensures { λ r. ⌜ r ≡ getD (now (positions .entry)) f 0 ⌝ }
+{
+    if f == last {
+        return at;
+    }
+    let p = wide(f);
+    positions[p]
+}
+
+// Main is at place 1, and it is at position 0.
+pub(crate) fn is_end(f: u32, r: u32) -> bool
+    ensures { λ b. ⌜ b ≡ (eqb r 0 && eqb f 1) ⌝ }
+{
+    if r != 0 {
+        return false;
+    }
+    f == 1
 }
 
 // The linkage that an operand stands for.

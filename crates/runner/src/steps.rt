@@ -11,29 +11,29 @@ use trace::put_line;
 ghost use mathlib.Core.Path.{_≡_};
 ghost use Prim.Native.Nat.{_+_, _≤_};
 ghost use lib.ListN.{length};
-ghost use Rattle.runner.specs.Run.{lent, turnedOf, stepOn};
+ghost use Rattle.runner.specs.Run.{lent, turnedOf, recordAtNow, stepOn};
 ghost use Rattle.runner.specs.Standing.{Standing};
 
-// Whether the run goes on.
+// Whether the run goes on, and at which record the process does.
 pub enum Turned {
-    On,
+    On(u32),
     Refused(Refusal),
 }
 
 // What a call's answer means for the run.
-pub(crate) fn goes_on(a: Answer) -> Turned
-    ensures { λ r. ⌜ r ≡ turnedOf a ⌝ }
+pub(crate) fn goes_on(a: Answer, next: u32) -> Turned
+    ensures { λ r. ⌜ r ≡ turnedOf a next ⌝ }
 {
     match a {
-        Answer::Done => Turned::On,
-        Answer::Linkage(_) => Turned::On,
-        Answer::Number(_) => Turned::On,
-        Answer::Truth(_) => Turned::On,
+        Answer::Done => Turned::On(next),
+        Answer::Linkage(_) => Turned::On(next),
+        Answer::Number(_) => Turned::On(next),
+        Answer::Truth(_) => Turned::On(next),
         Answer::Refused(q) => Turned::Refused(q),
     }
 }
 
-// The line goes to byte i of the trace.
+// Current is at record r; the line goes to byte i of the trace.
 pub(crate) fn step(
     c: Counts,
     sheet: &[u8],
@@ -44,25 +44,26 @@ pub(crate) fn step(
     positions: &mut [u32],
     accums: &mut [i64],
     trace: &mut [u8],
+    r: u32,
     i: usize,
 ) -> Turned
     requires { ⌜ Standing c (now sheet) (lent (now links) (now axis) (now times) (now marks) (now positions) (now accums)) ⌝ }
     requires { ⌜ i + 16 ≤ length (now trace) ⌝ }
-    ensures { λ r. ⌜ record { run = lent (now (links .exit)) (now (axis .exit)) (now (times .exit)) (now (marks .exit)) (now (positions .exit)) (now (accums .exit)); trace = now (trace .exit); turned = r }
+    requires { ⌜ r ≡ recordAtNow c (lent (now links) (now axis) (now times) (now marks) (now positions) (now accums)) ⌝ }
+    ensures { λ v. ⌜ record { run = lent (now (links .exit)) (now (axis .exit)) (now (times .exit)) (now (marks .exit)) (now (positions .exit)) (now (accums .exit)); trace = now (trace .exit); turned = v }
         ≡ stepOn c (now (sheet .entry)) i (lent (now (links .entry)) (now (axis .entry)) (now (times .entry)) (now (marks .entry)) (now (positions .entry)) (now (accums .entry))) (now (trace .entry)) ⌝ }
 {
     let f = place_now(c, axis);
     let p = wide(f);
-    let r = positions[p];
     let time = times[p];
     let d = due(c, sheet, r, links, axis);
     let a = perform(c, d, time, links, axis, times, marks, accums);
-    match goes_on(a) {
+    match goes_on(a, d.next) {
         Turned::Refused(q) => Turned::Refused(q),
-        Turned::On => {
-            positions[p] = d.next;
+        Turned::On(next) => {
+            positions[p] = next;
             put_line(trace, i, time, c.heads + f, r);
-            Turned::On
+            Turned::On(next)
         }
     }
 }

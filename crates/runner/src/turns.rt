@@ -1,6 +1,10 @@
-// Turn after turn on judged tables, until main has finished, the trace is full or a step is refused.
+// Turn after turn on judged tables, until main has finished, the trace is full or a step is refused. The last process's position is
+// kept beside its table, so that a process which stays current needs no read.
 use crate::Ran;
 use crate::reading::ends_now;
+use crate::reading::is_end;
+use crate::reading::place_now;
+use crate::reading::position;
 use crate::steps::Turned;
 use crate::steps::step;
 use counts::Counts;
@@ -37,8 +41,12 @@ pub(crate) fn turns(
 {
     let room = trace.len() / 16;
     let mut n = 0;
+    let mut last = 0;
+    let mut at = positions[0];
     while n < room {
-        if ends_now(c, axis, positions) {
+        let f = place_now(c, axis);
+        let r = position(positions, f, last, at);
+        if is_end(f, r) {
             return Ran {
                 lines: count(n),
                 end: End::Finished,
@@ -54,6 +62,7 @@ pub(crate) fn turns(
             positions,
             accums,
             trace,
+            r,
             16 * n,
         ) {
             Turned::Refused(q) => {
@@ -62,7 +71,9 @@ pub(crate) fn turns(
                     end: End::Refused(q),
                 };
             }
-            Turned::On => {
+            Turned::On(next) => {
+                last = f;
+                at = next;
                 n += 1;
             }
         }

@@ -1,11 +1,11 @@
 -- What the calls' code promises and asks: refused, or moved with the table still sound; operands that passed lie in the table.
-use Prim.Native.Nat.{ℕ, _+_, _<_}
+use Prim.Native.Nat.{ℕ, zero, suc, _+_, _<_}
 use mathlib.Core.Path.{_≡_, refl, sym, ap, _∙_}
 use mathlib.Core.Bool.{Bool, true, false, not, _&&_, _||_}
 use mathlib.Core.List.{List}
 use native.Mathlib.Omega.{arith}
 use lib.Dec.{eqb, leb, ltb}
-use borrow.Author.Tests.{eqb-true, leb-true, not-true, not-false}
+use borrow.Author.Tests.{eqb-true, leb-true, le-leb, ne-eqb, not-true, not-false}
 use Rattle.ring.specs.Lists.{clash}
 use Rattle.ring.specs.Table.{Sound, Made}
 use Rattle.counts.specs.declared.Counts.{Counts}
@@ -38,6 +38,11 @@ or-either false b e f = clash (sym f ∙ e)
 pub none-or : (b : Bool) (y n : ℕ) → (b ≡ true → y < n + 1) → orNone b y ≡ true → y < n + 1
 none-or true y n f e = f refl
 none-or false y n f e = let z : y ≡ 0 = eqb-true y 0 (or-either (eqb y 0) false e refl) in omega arith
+
+-- heads are numbered from 1, so that none needs no test of its own
+pub head-or : (h y : ℕ) → leb y h ≡ orNone (leb 1 y && leb y h) y
+head-or h zero = le-leb 0 h (omega arith)
+head-or h (suc y) = rw (ne-eqb (suc y) 0 (λ e. omega arith), le-leb 1 (suc y) (omega arith))
 
 -- ---- refused or done; the tests come in turn
 

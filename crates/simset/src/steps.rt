@@ -23,14 +23,11 @@ pub fn linkage_or_none(c: Counts, y: u32) -> bool
     c.is_linkage(y)
 }
 
-// A head, or none.
+// A head, or none: heads are numbered from 1.
 pub fn head_or_none(c: Counts, y: u32) -> bool
     ensures { λ r. ⌜ r ≡ orNone (isHead c y) y ⌝ }
 {
-    if y == 0 {
-        return true;
-    }
-    c.is_head(y)
+    y <= c.heads
 }
 
 pub fn out(c: Counts, links: &mut [u32], x: u32) -> Answer

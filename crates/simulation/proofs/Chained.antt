@@ -14,7 +14,7 @@ use Rattle.counts.specs.declared.Refusal.the-variants.{NoNotice, TimeLimit}
 use Rattle.model.specs.declared.answer.Answer.{Answer}
 use Rattle.model.specs.declared.answer.Answer.the-variants.{Done, Refused}
 use Rattle.simulation.specs.Procedures.{Sqs, made, found, dropOn, putOn, heldAt, held, passivated, cancelled, finishedMarks, dueAt, placeFor, scheduled, activated}
-use Rattle.simulation.specs.Promise.{sqs, Left, Answers, AnswersMarked, Place, Stored, Read, Lone, Vain, Beside, Due, capped, capped-in, capped-out}
+use Rattle.simulation.specs.Promise.{sqs, Left, Answers, AnswersMarked, Place, Stored, Read, Lone, Vain, Beside, Due, capped-in, capped-out}
 
 pub dropped-by : (m x y z : ℕ) (a a′ t t′ : List ℕ) → y ≡ x → Made m (unlinked m y a) a′ → z ≡ x → Stored z 0 t t′ → Left m (dropOn m x (sqs a t)) a′ t′
 unfolding dropOn
@@ -71,19 +71,17 @@ module _ (m : ℕ) (a t : List ℕ) where
           sound = k .sound;
         }
 
-  module _ (d x z y u : ℕ) (px : Place m (getD a (m - 1) 0) x) (ez : z ≡ x) (r : Read z t y) (eu : u ≡ capped (y + d)) where
+  module _ (d x z y : ℕ) (px : Place m (getD a (m - 1) 0) x) (ez : z ≡ x) (r : Read z t y) where
     the-time : getD t (getD a (m - 1) 0) 0 ≡ y
     the-time = sym (r .is ∙ ap (λ (j : ℕ). getD t j 0) (ez ∙ px .is))
 
-    pub hold-5 : Sound m a → limit < u → Answers m (held m d (sqs a t)) a t (Refused TimeLimit)
+    pub hold-5 : Sound m a → limit < y + d → Answers m (held m d (sqs a t)) a t (Refused TimeLimit)
     unfolding held
-    hold-5 so l = record { is = rw (the-time, lt-leb (y + d) limit (capped-out (y + d) u eu l)); sound = so }
+    hold-5 so l = record { is = rw (the-time, lt-leb (y + d) limit l); sound = so }
 
-    pub hold-0 : (a′ t′ : List ℕ) → u ≤ limit → Left m (heldAt m x u (sqs a t)) a′ t′ → Answers m (held m d (sqs a t)) a′ t′ Done
+    pub hold-0 : (a′ t′ : List ℕ) → y + d ≤ limit → Left m (heldAt m x (y + d) (sqs a t)) a′ t′ → Answers m (held m d (sqs a t)) a′ t′ Done
     unfolding held
-    hold-0 a′ t′ l k =
-        let e : y + d ≡ u = capped-in (y + d) u eu l in
-        record { is = rw (the-time, e, le-leb u limit l, ← (px .is)) (ap made (k .is)); sound = k .sound }
+    hold-0 a′ t′ l k = record { is = rw (the-time, le-leb (y + d) limit l, ← (px .is)) (ap made (k .is)); sound = k .sound }
 
   -- passivate, cancel, finish
   module _ (r : Bool) (lo : Lone m a r) where

@@ -1,6 +1,6 @@
 -- What the functions promise.
 use Prim.Native.Nat.{ℕ, suc, _≤_, _<_, _+_, _-_}
-use mathlib.Core.Path.{_≡_, sym, _∙_}
+use mathlib.Core.Path.{_≡_, sym, subst, _∙_}
 use mathlib.Core.Bool.{Bool, _&&_}
 use mathlib.Core.List.{List}
 use native.Mathlib.Omega.{arith}
@@ -93,6 +93,19 @@ pub record AnswersMarked (m : ℕ) (want : Outcome) (wantMarks : List ℕ) (axis
   pub sound : Sound m axis
   pub marked : marks ≡ wantMarks
 
+-- x's place is the first: the axis's own head, whose number is small, stands before it
+pub record First (m x : ℕ) (axis : List ℕ) : Type 0 where
+  pub within : x < m
+  pub small : m ≤ 1026
+  pub led : getD axis (m + x) 0 ≡ m - 1
+
+-- the place behind the head is the first
+abbrev pub Led : ℕ → List ℕ → Type 0
+Led m a = First m (getD a (m - 1) 0) a
+
+pub first-at : (m x : ℕ) (a : List ℕ) → Led m a → Place m (getD a (m - 1) 0) x → First m x a
+first-at m x a l p = subst (λ (y : ℕ). First m y a) (sym (p .is)) l
+
 -- ---- what a judged model gives the calls: limits, a sound axis, and a first notice
 
 pub record Judged (c : Counts) (axis : List ℕ) : Type 0 where
@@ -100,6 +113,17 @@ pub record Judged (c : Counts) (axis : List ℕ) : Type 0 where
   pub sound : Sound (c .processes + 2) axis
   pub first-some : 0 < getD axis (c .processes + 1) 0
   pub first-in : getD axis (c .processes + 1) 0 ≤ c .processes
+  pub first-led : Led (c .processes + 2) axis
 
 pub ready-judged : (c : Counts) (t : Tables) → Ready c t → Judged c (t .axis)
-ready-judged c t r = record { allowed = r .allowed; sound = r .axis-sound; first-some = r .first-some; first-in = r .first-in }
+ready-judged c t r =
+    let head : c .processes + 1 ≡ c .processes + 2 - 1 = omega arith in
+    record {
+      allowed = r .allowed;
+      sound = r .axis-sound;
+      first-some = r .first-some;
+      first-in = r .first-in;
+      first-led =
+          subst (λ (i : ℕ). First (c .processes + 2) (getD (t .axis) i 0) (t .axis)) head
+          (record { within = omega (arith, r .first-in); small = omega (arith, r .allowed .processes-in); led = r .first-led ∙ head });
+    }

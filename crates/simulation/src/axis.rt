@@ -2,13 +2,14 @@
 use counts::TIME_LIMIT;
 use ring::link_behind;
 use ring::unlink;
+use ring::unlink_behind;
 use ring::wide;
 ghost use mathlib.Core.Path.{_≡_};
 ghost use Prim.Native.Nat.{_+_, _-_, _<_, _≤_};
 ghost use lib.ListN.{getD};
 ghost use Rattle.ring.specs.Table.{Sound};
 ghost use Rattle.simulation.specs.Procedures.{found, dropOn, putOn};
-ghost use Rattle.simulation.specs.Promise.{sqs, Left, Place, Read, Stored, Lone, capped};
+ghost use Rattle.simulation.specs.Promise.{sqs, Left, Place, Read, Stored, Lone, First, capped};
 
 // The time at a place, 0 past the table's end.
 pub(crate) fn due(times: &[u64], i: usize) -> u64
@@ -99,6 +100,24 @@ pub(crate) fn drop(axis: &mut [u32], m: usize, times: &mut [u64], x: u32)
     store(times, wide(x), 0);
 }
 
+// The number of the axis's own head.
+fn own_head(m: usize) -> u32
+    requires { ⌜ (1 ≤ m) × (m ≤ 1026) ⌝ }
+    ensures { λ r. ⌜ r ≡ m - 1 ⌝ }
+{
+    (m - 1) as u32
+}
+
+// Takes the first notice, x's, away.
+pub(crate) fn drop_first(axis: &mut [u32], m: usize, times: &mut [u64], x: u32)
+    requires { ⌜ Sound m (now axis) ⌝ }
+    requires { ⌜ First m x (now axis) ⌝ }
+    ensures { λ _. ⌜ Left m (dropOn m x (sqs (now (axis .entry)) (now (times .entry)))) (now (axis .exit)) (now (times .exit)) ⌝ }
+{
+    unlink_behind(axis, m, wide(x), own_head(m));
+    store(times, wide(x), 0);
+}
+
 // A notice for x, which has none, at time u behind the place q.
 pub(crate) fn put(axis: &mut [u32], m: usize, times: &mut [u64], x: u32, q: u32, u: u64)
     requires { ⌜ Sound m (now axis) ⌝ }
@@ -127,13 +146,13 @@ pub(crate) fn lone(axis: &[u32], m: usize) -> bool
     wide(axis[c]) == m - 1
 }
 
-// x's notice moves: at time u behind the last whose time is below w.
+// The first notice, x's, moves: at time u behind the last whose time is below w.
 pub(crate) fn move_to(axis: &mut [u32], m: usize, times: &mut [u64], x: u32, w: u64, u: u64)
     requires { ⌜ Sound m (now axis) ⌝ }
-    requires { ⌜ x < m ⌝ }
+    requires { ⌜ First m x (now axis) ⌝ }
     ensures { λ _. ⌜ Left m (putOn m x (found m w (dropOn m x (sqs (now (axis .entry)) (now (times .entry))))) u (dropOn m x (sqs (now (axis .entry)) (now (times .entry))))) (now (axis .exit)) (now (times .exit)) ⌝ }
 {
-    drop(axis, m, times, x);
+    drop_first(axis, m, times, x);
     let q = seek(axis, m, times, w);
     put(axis, m, times, x, q, u);
 }

@@ -1,11 +1,11 @@
 // Hold, passivate, cancel and finish on sound tables: refusals 4 and 5, or the published procedure.
 use crate::axis::drop;
+use crate::axis::drop_first;
 use crate::axis::due;
 use crate::axis::first;
 use crate::axis::lone;
 use crate::axis::mark;
 use crate::axis::move_to;
-use crate::axis::plus;
 use crate::axis::store;
 use counts::Refusal;
 use counts::TIME_LIMIT;
@@ -16,12 +16,12 @@ ghost use Prim.Native.Nat.{_<_, _≤_};
 ghost use Rattle.ring.specs.Table.{Sound};
 ghost use Rattle.counts.specs.Counts.{limit};
 ghost use Rattle.simulation.specs.Procedures.{heldAt, held, passivated, cancelled, finishedMarks};
-ghost use Rattle.simulation.specs.Promise.{sqs, Left, Answers, AnswersMarked};
+ghost use Rattle.simulation.specs.Promise.{sqs, Left, Answers, AnswersMarked, First, Led};
 
 // x's notice gets the time u; where the next is due by then, it goes behind all due by then.
 pub(crate) fn hold_at(axis: &mut [u32], m: usize, times: &mut [u64], x: u32, u: u64)
     requires { ⌜ Sound m (now axis) ⌝ }
-    requires { ⌜ x < m ⌝ }
+    requires { ⌜ First m x (now axis) ⌝ }
     requires { ⌜ u ≤ limit ⌝ }
     ensures { λ _. ⌜ Left m (heldAt m x u (sqs (now (axis .entry)) (now (times .entry)))) (now (axis .exit)) (now (times .exit)) ⌝ }
 {
@@ -41,27 +41,32 @@ pub(crate) fn hold_at(axis: &mut [u32], m: usize, times: &mut [u64], x: u32, u: 
 // Hold; d is T where that is above 0, else 0.
 pub(crate) fn hold(axis: &mut [u32], m: usize, times: &mut [u64], d: u64) -> Answer
     requires { ⌜ Sound m (now axis) ⌝ }
+    requires { ⌜ Led m (now axis) ⌝ }
     ensures { λ r. ⌜ Answers m (held m d (sqs (now (axis .entry)) (now (times .entry)))) (now (axis .exit)) (now (times .exit)) r ⌝ }
 {
     let c = first(axis, m);
-    let u = plus(due(times, wide(c)), d);
-    if u > TIME_LIMIT {
+    let time = due(times, wide(c));
+    if time > TIME_LIMIT {
         return Answer::Refused(Refusal::TimeLimit);
     }
-    hold_at(axis, m, times, c, u);
+    if d > TIME_LIMIT - time {
+        return Answer::Refused(Refusal::TimeLimit);
+    }
+    hold_at(axis, m, times, c, time + d);
     Answer::Done
 }
 
 // Passivate.
 pub(crate) fn passivate(axis: &mut [u32], m: usize, times: &mut [u64]) -> Answer
     requires { ⌜ Sound m (now axis) ⌝ }
+    requires { ⌜ Led m (now axis) ⌝ }
     ensures { λ r. ⌜ Answers m (passivated m (sqs (now (axis .entry)) (now (times .entry)))) (now (axis .exit)) (now (times .exit)) r ⌝ }
 {
     if lone(axis, m) {
         return Answer::Refused(Refusal::NoNotice);
     }
     let c = first(axis, m);
-    drop(axis, m, times, c);
+    drop_first(axis, m, times, c);
     Answer::Done
 }
 
@@ -85,6 +90,7 @@ pub(crate) fn cancel(axis: &mut [u32], m: usize, times: &mut [u64], x: u32) -> A
 // Finish: current is marked terminated, then passivated.
 pub(crate) fn finish(axis: &mut [u32], m: usize, times: &mut [u64], marks: &mut [u8]) -> Answer
     requires { ⌜ Sound m (now axis) ⌝ }
+    requires { ⌜ Led m (now axis) ⌝ }
     ensures { λ r. ⌜ AnswersMarked m (passivated m (sqs (now (axis .entry)) (now (times .entry)))) (finishedMarks m (now (marks .entry)) (sqs (now (axis .entry)) (now (times .entry)))) (now (axis .exit)) (now (times .exit)) (now (marks .exit)) r ⌝ }
 {
     if lone(axis, m) {
@@ -92,6 +98,6 @@ pub(crate) fn finish(axis: &mut [u32], m: usize, times: &mut [u64], marks: &mut 
     }
     let c = first(axis, m);
     mark(marks, wide(c));
-    drop(axis, m, times, c);
+    drop_first(axis, m, times, c);
     Answer::Done
 }

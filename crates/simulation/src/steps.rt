@@ -1,7 +1,7 @@
 // The sequencing calls on the tables of a judged model: refusal 3 by the operands' kinds, or the procedure. Runs use these too.
 use crate::activation;
 use crate::activation::above_zero;
-use crate::axis::drop;
+use crate::axis::drop_first;
 use crate::axis::first;
 use crate::axis::lone;
 use crate::procedures;
@@ -159,6 +159,6 @@ pub fn wait(c: Counts, links: &mut [u32], axis: &mut [u32], times: &mut [u64], y
     let f = first(axis, m);
     let x = current_link(c, f);
     precede(links, c.total() + 1, x, y);
-    drop(axis, m, times, f);
+    drop_first(axis, m, times, f);
     Answer::Done
 }

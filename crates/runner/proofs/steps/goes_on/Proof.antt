@@ -1,4 +1,6 @@
 use mathlib.Core.Path.{sym, ap}
+use Rattle.model.specs.declared.answer.Answer.{Answer}
+use Rattle.runner.specs.Run.{turnedOf}
 use borrow.Author.Needs.{needs}
 use Rattle.runner.proofs.steps.goes_on.Statement.{statement}
 use Rattle.runner.proofs.steps.goes_on.Tie as tie
@@ -19,24 +21,24 @@ enum-known-a : tie.Need-enum-known-a
 enum-known-a c = search needs
 
 returns : tie.Need-returns
-unfolding Rattle.runner.specs.Run.turnedOf
-returns c = search needs
+unfolding turnedOf
+returns c = sym (ap (λ (a : Answer). turnedOf a (c .before .before .args .next)) (c .enum-told .given .1))
 
 returns-2 : tie.Need-returns-2
-unfolding Rattle.runner.specs.Run.turnedOf
-returns-2 c = search needs
+unfolding turnedOf
+returns-2 c = sym (ap (λ (a : Answer). turnedOf a (c .before .before .args .next)) (c .enum-told2 .given .1))
 
 returns-3 : tie.Need-returns-3
-unfolding Rattle.runner.specs.Run.turnedOf
-returns-3 c = search needs
+unfolding turnedOf
+returns-3 c = sym (ap (λ (a : Answer). turnedOf a (c .before .before .args .next)) (c .enum-told3 .given .1))
 
 returns-4 : tie.Need-returns-4
-unfolding Rattle.runner.specs.Run.turnedOf
-returns-4 c = search needs
+unfolding turnedOf
+returns-4 c = sym (ap (λ (a : Answer). turnedOf a (c .before .before .args .next)) (c .enum-told4 .given .1))
 
 returns-5 : tie.Need-returns-5
-unfolding Rattle.runner.specs.Run.turnedOf
-returns-5 c = sym (ap Rattle.runner.specs.Run.turnedOf ((c .before .a .given .1)))
+unfolding turnedOf
+returns-5 c = sym (ap (λ (a : Answer). turnedOf a (c .before .before .before .args .next)) ((c .before .a .given .1)))
 
 pub goes-on-spec : {M : Type 1} → statement M
 goes-on-spec =

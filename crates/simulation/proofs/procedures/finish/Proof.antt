@@ -1,3 +1,4 @@
+use Rattle.simulation.specs.Promise.{first-at}
 use borrow.Author.Needs.{needs}
 use Rattle.simulation.proofs.Chained.{finish-4, finish-0}
 use Rattle.simulation.proofs.procedures.finish.Statement.{statement}
@@ -10,7 +11,7 @@ same-length : tie.Need-same-length
 same-length c = search needs
 
 returns : tie.Need-returns
-returns c = finish-4 _ _ _ _ (c .before .lone .ensures) _ (c .before .before .before .before .before .before .pre) (c .if1 .taken)
+returns c = finish-4 _ _ _ _ (c .before .lone .ensures) _ (c .before .before .before .before .before .before .pre .0) (c .if1 .taken)
 
 first-requires : tie.Need-first-requires
 first-requires c κs = search needs
@@ -21,8 +22,8 @@ wide-requires c κs = search needs
 mark-requires : tie.Need-mark-requires
 mark-requires c κs = search needs
 
-drop-requires : tie.Need-drop-requires
-drop-requires c κs = (c .before .before .before .before .before .before .before .before .before .before .before .before .before .before .before .pre, c .before .before .before .before .before .before .before .first .ensures .within)
+drop-first-requires : tie.Need-drop-first-requires
+drop-first-requires c κs = ((c .before .before .before .before .before .before .before .before .before .before .before .before .before .before .before .pre .0), first-at _ _ _ (c .before .before .before .before .before .before .before .before .before .before .before .before .before .before .before .pre .1) (c .before .before .before .before .before .before .before .first .ensures))
 
 same-length-2 : tie.Need-same-length-2
 same-length-2 c = search needs
@@ -34,7 +35,7 @@ same-length-4 : tie.Need-same-length-4
 same-length-4 c = search needs
 
 returns-2 : tie.Need-returns-2
-returns-2 c = finish-0 _ _ _ _ (c .before .before .before .before .before .before .before .before .before .before .before .before .before .before .before .lone .ensures) _ _ _ _ _ _ (c .before .before .before .before .before .before .before .before .before .before .before .before .before .before .if1 .left) (c .before .before .before .before .before .before .before .before .before .before .before .before .first .ensures) (c .before .before .before .before .before .before .before .before .before .before .wide .ensures) (c .before .before .before .before .before .before .before .before .before .mark .ensures) (c .before .before .before .before .drop .ensures)
+returns-2 c = finish-0 _ _ _ _ (c .before .before .before .before .before .before .before .before .before .before .before .before .before .before .before .lone .ensures) _ _ _ _ _ _ (c .before .before .before .before .before .before .before .before .before .before .before .before .before .before .if1 .left) (c .before .before .before .before .before .before .before .before .before .before .before .before .first .ensures) (c .before .before .before .before .before .before .before .before .before .before .wide .ensures) (c .before .before .before .before .before .before .before .before .before .mark .ensures) (c .before .before .before .before .drop-first .ensures)
 
 pub finish-spec : {M : Type 1} → statement M
 finish-spec =
@@ -46,7 +47,7 @@ finish-spec =
     first-requires
     wide-requires
     mark-requires
-    drop-requires
+    drop-first-requires
     same-length-2
     same-length-3
     same-length-4

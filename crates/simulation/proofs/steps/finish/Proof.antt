@@ -22,7 +22,7 @@ add-finish : tie.Need-add-finish
 add-finish c = search needs
 
 finish-requires : tie.Need-finish-requires
-finish-requires c κs = rw (c .before .before .before .before .before .before .wide .ensures) (c .before .before .before .before .before .before .before .before .before .before .pre .sound)
+finish-requires c κs = rw ((c .before .before .before .before .before .before .wide .ensures)) ((c .before .before .before .before .before .before .before .before .before .before .pre .sound), (c .before .before .before .before .before .before .before .before .before .before .pre .first-led))
 
 same-length-2 : tie.Need-same-length-2
 same-length-2 c = search needs

@@ -1,3 +1,4 @@
+use Rattle.simulation.specs.Promise.{first-at}
 use Rattle.simset.specs.Promise.{failed, passed, none-or, head-in}
 use Rattle.simulation.specs.StepPromise.{wait-3, wait-4, wait-0, first-low}
 use borrow.Author.Needs.{needs}
@@ -41,8 +42,8 @@ add-precede c = search needs
 precede-requires : tie.Need-precede-requires
 precede-requires c κs = (rw (c .total .ensures) (c .before .before .before .before .before .before .before .before .before .before .before .before .before .before .pre .1), (omega (arith, c .total .ensures, c .before .before .current-link .ensures, first-low (c .before .before .before .before .before .before .before .before .before .before .before .before .before .before .args .c) _ (c .before .before .before .before .before .before .before .before .before .before .before .before .before .before .pre .0) _ (rw (c .before .before .before .before .before .before .before .before .wide .ensures) at (c .before .before .before .first .ensures))), omega (arith, c .total .ensures, none-or _ (c .before .before .before .before .before .before .before .before .before .before .before .before .before .before .args .y) _ (head-in (c .before .before .before .before .before .before .before .before .before .before .before .before .before .before .args .c) (c .before .before .before .before .before .before .before .before .before .before .before .before .before .before .args .y)) (passed _ _ (c .before .before .before .before .before .before .before .before .before .before .head-or-none .ensures) (c .before .before .before .before .before .before .before .before .before .if1 .left)))))
 
-drop-requires : tie.Need-drop-requires
-drop-requires c κs = (rw (c .before .before .before .before .before .before .before .before .before .before .before .before .before .wide .ensures) (c .before .before .before .before .before .before .before .before .before .before .before .before .before .before .before .before .before .before .before .pre .0 .sound), c .before .before .before .before .before .before .before .before .first .ensures .within)
+drop-first-requires : tie.Need-drop-first-requires
+drop-first-requires c κs = (rw ((c .before .before .before .before .before .before .before .before .before .before .before .before .before .wide .ensures)) ((c .before .before .before .before .before .before .before .before .before .before .before .before .before .before .before .before .before .before .before .pre .0 .sound)), first-at _ _ _ (rw ((c .before .before .before .before .before .before .before .before .before .before .before .before .before .wide .ensures)) ((c .before .before .before .before .before .before .before .before .before .before .before .before .before .before .before .before .before .before .before .pre .0 .first-led))) (c .before .before .before .before .before .before .before .before .first .ensures))
 
 same-length-2 : tie.Need-same-length-2
 same-length-2 c = search needs
@@ -54,7 +55,7 @@ same-length-4 : tie.Need-same-length-4
 same-length-4 c = search needs
 
 returns-3 : tie.Need-returns-3
-returns-3 c = wait-0 (c .before .before .before .before .before .before .before .before .before .before .before .before .before .before .before .before .before .before .before .before .before .before .before .before .args .c) (c .before .before .before .before .before .before .before .before .before .before .before .before .before .before .before .before .before .before .before .before .before .before .before .before .args .y) _ _ _ (passed _ _ (c .before .before .before .before .before .before .before .before .before .before .before .before .before .before .before .before .before .before .before .before .head-or-none .ensures) (c .before .before .before .before .before .before .before .before .before .before .before .before .before .before .before .before .before .before .before .if1 .left)) _ (rw (c .before .before .before .before .before .before .before .before .before .before .before .before .before .before .before .before .before .before .wide .ensures) at (c .before .before .before .before .before .before .before .before .before .before .before .before .before .before .before .before .lone .ensures)) _ _ _ _ _ (c .before .before .before .before .before .before .before .before .before .before .before .before .before .before .before .if2 .left) (rw (c .before .before .before .before .before .before .before .before .before .before .before .before .before .before .before .before .before .before .wide .ensures) at (c .before .before .before .before .before .before .before .before .before .before .before .before .before .first .ensures)) (c .before .before .before .before .before .before .before .before .before .before .before .before .current-link .ensures) (rw (c .before .before .before .before .before .before .before .before .before .before .total .ensures) at (c .before .before .before .before .before .before .before .before .before .precede .ensures)) (rw (c .before .before .before .before .before .before .before .before .before .before .before .before .before .before .before .before .before .before .wide .ensures) at (c .before .before .before .before .drop .ensures))
+returns-3 c = wait-0 (c .before .before .before .before .before .before .before .before .before .before .before .before .before .before .before .before .before .before .before .before .before .before .before .before .args .c) (c .before .before .before .before .before .before .before .before .before .before .before .before .before .before .before .before .before .before .before .before .before .before .before .before .args .y) _ _ _ (passed _ _ (c .before .before .before .before .before .before .before .before .before .before .before .before .before .before .before .before .before .before .before .before .head-or-none .ensures) (c .before .before .before .before .before .before .before .before .before .before .before .before .before .before .before .before .before .before .before .if1 .left)) _ (rw (c .before .before .before .before .before .before .before .before .before .before .before .before .before .before .before .before .before .before .wide .ensures) at (c .before .before .before .before .before .before .before .before .before .before .before .before .before .before .before .before .lone .ensures)) _ _ _ _ _ (c .before .before .before .before .before .before .before .before .before .before .before .before .before .before .before .if2 .left) (rw (c .before .before .before .before .before .before .before .before .before .before .before .before .before .before .before .before .before .before .wide .ensures) at (c .before .before .before .before .before .before .before .before .before .before .before .before .before .first .ensures)) (c .before .before .before .before .before .before .before .before .before .before .before .before .current-link .ensures) (rw (c .before .before .before .before .before .before .before .before .before .before .total .ensures) at (c .before .before .before .before .before .before .before .before .before .precede .ensures)) (rw (c .before .before .before .before .before .before .before .before .before .before .before .before .before .before .before .before .before .before .wide .ensures) at (c .before .before .before .before .drop-first .ensures))
 
 pub wait-spec : {M : Type 1} → statement M
 wait-spec =
@@ -72,7 +73,7 @@ wait-spec =
     total-requires
     add-precede
     precede-requires
-    drop-requires
+    drop-first-requires
     same-length-2
     same-length-3
     same-length-4
