@@ -9,8 +9,8 @@ use Rattle.ring.specs.Lists.{if_then_else_}
 use Rattle.counts.specs.declared.Counts.{Counts}
 use Rattle.counts.specs.declared.Refusal.the-variants.{Size, Operand}
 use Rattle.model.specs.declared.answer.Answer.the-variants.{Done, Refused as Turned}
-use Rattle.model.specs.declared.judge.Verdict.{Verdict}
-use Rattle.model.specs.declared.judge.Verdict.the-variants.{Fine, Refused as Judged}
+use Rattle.model.specs.declared.verdict.Verdict.{Verdict}
+use Rattle.model.specs.declared.verdict.Verdict.the-variants.{Fine, Refused as Judged}
 use Rattle.model.specs.Tables.{Tables}
 use Rattle.model.specs.Judge.{judged}
 use Rattle.accumulator.specs.declared.Accumulator.{Accumulator}

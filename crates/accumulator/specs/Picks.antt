@@ -12,8 +12,8 @@ use Rattle.counts.specs.declared.Counts.{Counts}
 use Rattle.counts.specs.declared.Refusal.{Refusal}
 use Rattle.counts.specs.Counts.{limit}
 use Rattle.model.specs.declared.answer.Answer.the-variants.{Done, Refused as Turned}
-use Rattle.model.specs.declared.judge.Verdict.{Verdict}
-use Rattle.model.specs.declared.judge.Verdict.the-variants.{Fine, Refused as Judged}
+use Rattle.model.specs.declared.verdict.Verdict.{Verdict}
+use Rattle.model.specs.declared.verdict.Verdict.the-variants.{Fine, Refused as Judged}
 use Rattle.model.specs.Tables.{Tables}
 use Rattle.accumulator.specs.declared.Accumulator.{Accumulator}
 use Rattle.accumulator.specs.declared.Kept.{Kept}

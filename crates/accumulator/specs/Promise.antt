@@ -14,8 +14,8 @@ use Rattle.counts.specs.declared.Refusal.{Refusal}
 use Rattle.counts.specs.declared.Refusal.the-variants.{Size, Operand}
 use Rattle.counts.specs.Counts.{limit, both}
 use Rattle.model.specs.declared.answer.Answer.the-variants.{Done, Refused as Turned}
-use Rattle.model.specs.declared.judge.Verdict.{Verdict}
-use Rattle.model.specs.declared.judge.Verdict.the-variants.{Fine, Refused as Judged}
+use Rattle.model.specs.declared.verdict.Verdict.{Verdict}
+use Rattle.model.specs.declared.verdict.Verdict.the-variants.{Fine, Refused as Judged}
 use Rattle.model.specs.Tables.{Tables}
 use Rattle.model.specs.Judge.{judged}
 use Rattle.model.specs.Ready.{Ready, judged-ready}

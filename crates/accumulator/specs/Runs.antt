@@ -13,8 +13,8 @@ use Rattle.counts.specs.declared.Counts.{Counts}
 use Rattle.counts.specs.declared.Refusal.{Refusal}
 use Rattle.counts.specs.declared.Refusal.the-variants.{Accumulator as NotAsRequired}
 use Rattle.model.specs.declared.answer.Answer.the-variants.{Refused as Turned}
-use Rattle.model.specs.declared.judge.Verdict.{Verdict}
-use Rattle.model.specs.declared.judge.Verdict.the-variants.{Fine, Refused as Judged}
+use Rattle.model.specs.declared.verdict.Verdict.{Verdict}
+use Rattle.model.specs.declared.verdict.Verdict.the-variants.{Fine, Refused as Judged}
 use Rattle.model.specs.Tables.{Tables}
 use Rattle.accumulator.specs.declared.Accumulator.{Accumulator}
 use Rattle.accumulator.specs.declared.Updated.{Updated}

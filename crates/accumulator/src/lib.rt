@@ -1,13 +1,6 @@
-// Accumulators: the update by value, in a run's flat list, as public calls, and lent as structs.
+// Accumulators: what an update does, by value, in a list and as a call, in specs/. The code is in `accum`.
 use counts::Refusal;
 use model::answer::Answer;
-
-pub mod calls;
-pub mod flat;
-pub mod judge;
-pub mod lent;
-pub mod signed;
-pub mod update;
 
 // What has been gathered, since when, and by how much it grows in a tick.
 pub struct Accumulator {

@@ -1,6 +1,6 @@
--- That a signed number and its bits are turned into each other with no loss.
-use Prim.Native.Nat.{ℕ, zero, suc, _+_, _-_, _^_, _≤_, _<_}
-use mathlib.Core.Path.{_≡_, refl, sym, _∙_, ap, subst}
+-- That a signed number is turned into its bits with no loss.
+use Prim.Native.Nat.{ℕ, suc, _-_, _^_, _≤_, _<_}
+use mathlib.Core.Path.{_≡_, sym, _∙_, ap, subst}
 use mathlib.Core.Bool.{Bool, true, false, not, cond}
 use native.Mathlib.Omega.{arith}
 use lib.Dec.{T, ltb, ltb→lt}
@@ -9,25 +9,7 @@ use lib.Signed.{mag, ltZ, nonNeg}
 use borrow.Author.Tests.{ltb-true}
 use mir.Syntax.{w64}
 use mir.Val.{SFits, Fits, toZ, ofZ}
-use mir.ValLaws.{toZ-ofZ, toZ-pos}
-
-below : (m : ℕ) → negsuc 0 -ℤ pos m ≡ negsuc m
-below zero = refl
-below (suc k) = ap negsuc (one-more k)
-  where
-    one-more : (k : ℕ) → suc (0 + k) ≡ suc k
-    one-more k = omega arith
-
--- the bits of a negative number
-module _ (n : ℕ) (high : 9223372036854775808 ≤ n) (fits : n < 2 ^ 64) where
-  minus : negsuc 0 -ℤ toZ w64 (18446744073709551615 - n) ≡ negsuc (18446744073709551615 - n)
-  minus = ap (λ (z : ℤ). negsuc 0 -ℤ z) (toZ-pos w64 (18446744073709551615 - n) (omega arith)) ∙ below (18446744073709551615 - n)
-
-  pub high-fits : SFits w64 (negsuc 0 -ℤ toZ w64 (18446744073709551615 - n))
-  high-fits = rw minus (record { sfits = small })
-    where
-      small : 18446744073709551615 - n < 2 ^ 63
-      small = omega arith
+use mir.ValLaws.{toZ-ofZ}
 
 by-test : (c : Bool) (x y : ℤ) (P : ℤ → Type 0) → (T c → P x) → (T (not c) → P y) → P (cond c x y)
 by-test true x y P f g = f tt

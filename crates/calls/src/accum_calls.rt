@@ -2,8 +2,8 @@
 use crate::answer::Reply;
 use crate::answer::answered;
 use crate::head::Head;
+use accum::calls;
 use accumulator::Accumulator;
-use accumulator::calls;
 use counts::Refusal;
 use model::answer::Answer;
 

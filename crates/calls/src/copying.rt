@@ -1,10 +1,10 @@
 // The first n entries of a table, from bytes and to bytes; each answers the place behind them.
-use crate::words::i64_at;
-use crate::words::put_i64;
-use crate::words::put_u32;
-use crate::words::put_u64;
-use crate::words::u32_at;
-use crate::words::u64_at;
+use crate::put::put_i64;
+use crate::put::put_u32;
+use crate::put::put_u64;
+use words::i64_at;
+use words::u32_at;
+use words::u64_at;
 ghost use Prim.Native.Nat.{_+_, _*_, _≤_};
 ghost use mathlib.Core.Path.{_≡_};
 ghost use lib.ListN.{length};

@@ -1,8 +1,8 @@
 // The head of a request: the call with its operands, and how long the contents are.
-use crate::words::i64_at;
-use crate::words::u32_at;
 use counts::Counts;
 use ring::wide;
+use words::i64_at;
+use words::u32_at;
 ghost use Prim.Native.Nat.{_+_, _<_, _≤_};
 ghost use mathlib.Core.Path.{_≡_};
 ghost use mathlib.Core.Bool.{true};

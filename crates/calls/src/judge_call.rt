@@ -3,8 +3,8 @@ use crate::answer::Reply;
 use crate::answer::accepted;
 use crate::answer::refused;
 use crate::head::Head;
-use model::judge::Verdict;
-use model::judge::judge_tables;
+use model::verdict::Verdict;
+use tables::judge::judge_tables;
 
 pub(crate) fn has(call: u32) -> bool {
     call == 0

@@ -6,13 +6,13 @@ mod copying;
 mod flow;
 mod head;
 mod judge_call;
+mod put;
 mod respond;
 mod run_calls;
 mod sequencing_calls;
 mod serve;
 mod set_calls;
 mod sheet_call;
-mod words;
 
 use serve::serve;
 

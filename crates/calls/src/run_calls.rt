@@ -2,7 +2,7 @@
 use crate::answer::Reply;
 use crate::answer::accepted;
 use crate::answer::refused;
-use model::judge::Verdict;
+use model::verdict::Verdict;
 use runner::answer::end_code;
 use runner::fresh::fresh_run;
 use runner::run;

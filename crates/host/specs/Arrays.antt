@@ -12,10 +12,10 @@ use Rattle.sheet.specs.declared.header.Header.{Header}
 use Rattle.sheet.specs.declared.header.Checked.the-variants.{Accepted}
 use Rattle.sheet.specs.Accepted.{checked}
 use Rattle.sheet.specs.Ranges.{checked-yes, allowed-counts}
-use Rattle.runner.specs.Run.{RunTables}
-use Rattle.runner.specs.Fresh.{sizesFine}
-use Rattle.runner.specs.Starting.{Startable}
-use Rattle.runner.specs.Parts.{part-length}
+use Rattle.runs.specs.Run.{RunTables}
+use Rattle.runs.specs.Fresh.{sizesFine}
+use Rattle.runs.specs.Starting.{Startable}
+use Rattle.runs.specs.Parts.{part-length}
 
 -- the counts of an accepted sheet are in their limits
 pub header-allowed : (bytes : List ℕ) (h : Header) → checked bytes ≡ Accepted h → Allowed (h .counts)

@@ -20,12 +20,12 @@ use Rattle.sheet.specs.Ranges.{checked-yes, checked-no}
 use Rattle.machine.specs.Machine.{fresh}
 use Rattle.machine.specs.Run.{call}
 use Rattle.machine.specs.Run as machine
-use Rattle.runner.specs.declared.Ran.{Ran}
-use Rattle.runner.specs.Run.{runOn, judgedRun, endCode, ranNumber}
-use Rattle.runner.specs.TurnsFollow.{linesBytes}
-use Rattle.runner.specs.Fresh.{freshRun, fresh-stands}
-use Rattle.runner.specs.Starting.{startedOn}
-use Rattle.runner.specs.CallFollows.{Agrees, call-agrees, judged-short, by-judge}
+use Rattle.runs.specs.declared.Ran.{Ran}
+use Rattle.runs.specs.Run.{runOn, judgedRun, endCode, ranNumber}
+use Rattle.runs.specs.TurnsFollow.{linesBytes}
+use Rattle.runs.specs.Fresh.{freshRun, fresh-stands}
+use Rattle.runs.specs.Starting.{startedOn}
+use Rattle.runs.specs.CallFollows.{Agrees, call-agrees, judged-short, by-judge}
 
 -- the trace after a call, and the number
 pub record Hosted : Type 0 where

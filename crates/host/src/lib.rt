@@ -2,9 +2,9 @@
 use counts::Counts;
 use counts::Refusal;
 use ring::wide;
-use runner::Ran;
 use runner::answer::number;
 use runner::start;
+use runs::Ran;
 use sheet::check::check;
 use sheet::header::Checked;
 use sheet::header::Header;

@@ -12,12 +12,12 @@ use Rattle.model.specs.declared.answer.Answer.{Answer}
 use Rattle.model.specs.declared.answer.Answer.the-variants.{Done, Refused}
 use Rattle.model.specs.Tables.{Tables, Lists, After, Sized, Spells}
 use Rattle.model.specs.Answers.{called}
-use Rattle.simset.specs.Calls.{outStep, followStep, precedeStep, intoStep, clearStep, onLinks}
-use Rattle.simset.specs.Meaning.{Does, withSets, called-is, out-means, follow-means, precede-means, into-means, clear-means}
-use Rattle.simulation.specs.Plain.{Result, refused, done, time}
-use Rattle.simulation.specs.Plain as plain
-use Rattle.simulation.specs.Calls.{holdStep, passivateStep, cancelStep, timedStep, finishStep, waitStep, onSqs, onMarks, onSets}
-use Rattle.simulation.specs.Meaning.{Follows, hold-means, passivate-means, wait-means, cancel-means, timed-means, finish-means}
+use Rattle.sets.specs.Calls.{outStep, followStep, precedeStep, intoStep, clearStep, onLinks}
+use Rattle.sets.specs.Meaning.{Does, withSets, called-is, out-means, follow-means, precede-means, into-means, clear-means}
+use Rattle.sequencing.specs.Plain.{Result, refused, done, time}
+use Rattle.sequencing.specs.Plain as plain
+use Rattle.sequencing.specs.Calls.{holdStep, passivateStep, cancelStep, timedStep, finishStep, waitStep, onSqs, onMarks, onSets}
+use Rattle.sequencing.specs.Meaning.{Follows, hold-means, passivate-means, wait-means, cancel-means, timed-means, finish-means}
 use Rattle.accumulator.specs.declared.Updated.{Updated}
 use Rattle.accumulator.specs.declared.Updated.the-variants.{To, Refused as NotUpdated}
 use Rattle.accumulator.specs.Update.{updatedOf}

@@ -14,19 +14,19 @@ use Rattle.counts.specs.declared.Counts.{Counts}
 use Rattle.counts.specs.Counts.{limit, main, isHead, isProcess}
 use Rattle.model.specs.Notices.{Notice, whos, InOrder}
 use Rattle.model.specs.Tables.{Lists}
-use Rattle.simset.specs.Calls.{orNone}
-use Rattle.simset.specs.Sets.{precedeSets}
-use Rattle.simset.specs.Meaning.{withSets}
-use Rattle.simulation.specs.NoticeOps.{behindAll, dropped, hasNotice, rest, first}
-use Rattle.simulation.specs.NoticeLaws.{rest-drop, drop-in}
-use Rattle.simulation.specs.BesideLaws.{before-none, after-none}
-use Rattle.simulation.specs.AgreeEnds.{has-in, has-none}
-use Rattle.simulation.specs.PlacedLaws.{due-beside, others-y}
-use Rattle.simulation.specs.StepPromise.{clause-in}
-use Rattle.simulation.specs.Ties.{is-behind}
-use Rattle.simulation.specs.Forward.{Later, hold-forward, passivate-forward, cancel-forward, finish-forward, wait-forward, timed-forward}
-use Rattle.simulation.specs.Plain.{Result, refused, done, current, time, withNotices, withTerminated, need, above, leaving, upTo, dueFor, placed, noEffect, timedNeed}
-use Rattle.simulation.specs.Plain as plain
+use Rattle.sets.specs.Calls.{orNone}
+use Rattle.sets.specs.Sets.{precedeSets}
+use Rattle.sets.specs.Meaning.{withSets}
+use Rattle.sequencing.specs.NoticeOps.{behindAll, dropped, hasNotice, rest, first}
+use Rattle.sequencing.specs.NoticeLaws.{rest-drop, drop-in}
+use Rattle.sequencing.specs.BesideLaws.{before-none, after-none}
+use Rattle.sequencing.specs.AgreeEnds.{has-in, has-none}
+use Rattle.sequencing.specs.PlacedLaws.{due-beside, others-y}
+use Rattle.sequencing.specs.StepPromise.{clause-in}
+use Rattle.sequencing.specs.Ties.{is-behind}
+use Rattle.sequencing.specs.Forward.{Later, hold-forward, passivate-forward, cancel-forward, finish-forward, wait-forward, timed-forward}
+use Rattle.sequencing.specs.Plain.{Result, refused, done, current, time, withNotices, withTerminated, need, above, leaving, upTo, dueFor, placed, noEffect, timedNeed}
+use Rattle.sequencing.specs.Plain as plain
 use Rattle.machine.specs.Calls.{ListCall, onSet, hold, passivate, wait, cancel, activate, ifEmpty, finish, kindsFine, setsAfter, listsAfter}
 use Rattle.machine.specs.History.{behind, Placing, nothing, places, howOf, clausePlacing, timedPlacing, listPlacing, Stepwise}
 use Rattle.machine.specs.StepLaws.{stepwise-same, stepwise-drop, stepwise-placed}

@@ -7,11 +7,11 @@ use lib.ListN.{set}
 use Rattle.counts.specs.declared.Counts.{Counts}
 use Rattle.counts.specs.Counts.{isHead, isLink, isLinkage}
 use Rattle.model.specs.Tables.{Lists}
-use Rattle.simset.specs.Sets.{outSets, followSets, precedeSets, clearSets}
-use Rattle.simset.specs.Calls.{orNone}
-use Rattle.simset.specs.Meaning.{withSets}
-use Rattle.simulation.specs.Plain.{Result, refused, done, need, time}
-use Rattle.simulation.specs.Plain as plain
+use Rattle.sets.specs.Sets.{outSets, followSets, precedeSets, clearSets}
+use Rattle.sets.specs.Calls.{orNone}
+use Rattle.sets.specs.Meaning.{withSets}
+use Rattle.sequencing.specs.Plain.{Result, refused, done, need, time}
+use Rattle.sequencing.specs.Plain as plain
 use Rattle.accumulator.specs.declared.Updated.{Updated}
 use Rattle.accumulator.specs.declared.Updated.the-variants.{To, Refused}
 use Rattle.accumulator.specs.Update.{updatedOf}

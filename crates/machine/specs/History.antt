@@ -9,9 +9,9 @@ use lib.Dec.{leb, eqb}
 use Rattle.ring.specs.Lists.{if_then_else_, In}
 use Rattle.model.specs.Notices.{Notice, whos, dueOf}
 use Rattle.model.specs.Tables.{Lists}
-use Rattle.simulation.specs.NoticeOps.{hasNotice}
-use Rattle.simulation.specs.Orders.{Before, Next}
-use Rattle.simulation.specs.Plain.{current, noEffect}
+use Rattle.sequencing.specs.NoticeOps.{hasNotice}
+use Rattle.sequencing.specs.Orders.{Before, Next}
+use Rattle.sequencing.specs.Plain.{current, noEffect}
 use Rattle.sheet.specs.Sheet.{Sheet}
 use Rattle.machine.specs.Machine.{Machine}
 use Rattle.machine.specs.Calls.{ListCall, onSet, hold, passivate, wait, cancel, activate, ifEmpty, finish, Call, onList, accum}

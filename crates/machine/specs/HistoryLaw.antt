@@ -9,7 +9,7 @@ use borrow.Author.Tests.{eq-eqb, ne-eqb, eqb-true}
 use Rattle.ring.specs.Lists.{In, test, clash}
 use Rattle.counts.specs.Counts.{main}
 use Rattle.model.specs.Notices.{whos, dueOf}
-use Rattle.simulation.specs.Orders.{Before}
+use Rattle.sequencing.specs.Orders.{Before}
 use Rattle.sheet.specs.Sheet.{Sheet}
 use Rattle.machine.specs.Machine.{fresh}
 use Rattle.machine.specs.Run.{uncut, state}

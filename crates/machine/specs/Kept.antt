@@ -7,7 +7,7 @@ use Rattle.ring.specs.Lists.{In}
 use Rattle.ring.specs.Distinct.{Dist, joined}
 use Rattle.counts.specs.Counts.{Allowed, total, main}
 use Rattle.model.specs.Notices.{whos, InOrder, Within}
-use Rattle.simulation.specs.Plain.{time}
+use Rattle.sequencing.specs.Plain.{time}
 use Rattle.accumulator.specs.Runs.{Each}
 use Rattle.sheet.specs.declared.header.Header.{Header}
 use Rattle.sheet.specs.Sheet.{Sheet}

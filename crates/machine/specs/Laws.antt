@@ -10,7 +10,7 @@ use Rattle.ring.specs.Lists.{below}
 use Rattle.model.specs.Formed.{notice-each, notice-process}
 use Rattle.model.specs.Once.{links-once, set-links}
 use Rattle.model.specs.Fresh.{freshTables, fresh-spells}
-use Rattle.simulation.specs.Plain.{time}
+use Rattle.sequencing.specs.Plain.{time}
 use Rattle.accumulator.specs.Keeps.{zero-accumulator}
 use Rattle.accumulator.specs.Runs.{fresh-each}
 use Rattle.sheet.specs.Sheet.{countsOf, recordsOf, startAt, Sheet, sheetOf}

@@ -10,9 +10,9 @@ use Rattle.counts.specs.Counts.{isHead, linkageAt}
 use Rattle.model.specs.declared.answer.Answer.{Answer}
 use Rattle.model.specs.declared.answer.Answer.the-variants.{Done}
 use Rattle.model.specs.Tables.{Tables, After}
-use Rattle.simset.specs.Procedures as sets
-use Rattle.simset.specs.Calls.{Linked, telling, outStep, followStep, precedeStep, intoStep, clearStep, onLinks}
-use Rattle.simulation.specs.Calls.{holdStep, passivateStep, cancelStep, timedStep, finishStep, waitStep, onSqs, onMarks, onSets}
+use Rattle.sets.specs.Procedures as sets
+use Rattle.sets.specs.Calls.{Linked, telling, outStep, followStep, precedeStep, intoStep, clearStep, onLinks}
+use Rattle.sequencing.specs.Calls.{holdStep, passivateStep, cancelStep, timedStep, finishStep, waitStep, onSqs, onMarks, onSets}
 use Rattle.accumulator.specs.Flat.{updatedIn}
 use Rattle.machine.specs.Calls.{SetCall, out, follow, precede, into, clear, ListCall, onSet, hold, passivate, wait, cancel, activate, ifEmpty, finish, Call, onList, accum}
 

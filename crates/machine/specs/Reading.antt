@@ -16,15 +16,15 @@ use Rattle.counts.specs.declared.Counts.{Counts}
 use Rattle.counts.specs.Counts.{total, isHead, linkageAt}
 use Rattle.model.specs.declared.answer.Answer.the-variants.{Linkage, Number}
 use Rattle.model.specs.Tables.{Tables, Lists, Sized, setHead, membersOf, SpellsSets, Spells}
-use Rattle.simset.specs.Procedures as procedures
-use Rattle.simset.specs.Sets.{noLinks}
-use Rattle.simset.specs.Laws.{set-head}
-use Rattle.simset.specs.QueryLaws.{or-link, or-none, empty-says}
-use Rattle.simset.specs.Meaning.{asked-is, head-of}
-use Rattle.simulation.specs.Plain.{current, time}
-use Rattle.simulation.specs.Calls.{half, sqsOf, currentTold, timeTold}
-use Rattle.simulation.specs.Procedures.{firstOf, timeOf}
-use Rattle.simulation.specs.QueryMeaning.{current-means, time-means}
+use Rattle.sets.specs.Procedures as procedures
+use Rattle.sets.specs.Sets.{noLinks}
+use Rattle.sets.specs.Laws.{set-head}
+use Rattle.sets.specs.QueryLaws.{or-link, or-none, empty-says}
+use Rattle.sets.specs.Meaning.{asked-is, head-of}
+use Rattle.sequencing.specs.Plain.{current, time}
+use Rattle.sequencing.specs.Calls.{half, sqsOf, currentTold, timeTold}
+use Rattle.sequencing.specs.Procedures.{firstOf, timeOf}
+use Rattle.sequencing.specs.QueryMeaning.{current-means, time-means}
 use Rattle.sheet.specs.Accepted.{isOperand}
 use Rattle.sheet.specs.Fields.{operand-high}
 use Rattle.machine.specs.Steps.{firstIn, operandOf}

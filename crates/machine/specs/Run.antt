@@ -6,7 +6,7 @@ use lib.Dec.{leb, eqb}
 use Rattle.ring.specs.Lists.{if_then_else_}
 use Rattle.counts.specs.declared.Refusal.the-variants.{Size}
 use Rattle.counts.specs.Counts.{main}
-use Rattle.simulation.specs.Plain.{current}
+use Rattle.sequencing.specs.Plain.{current}
 use Rattle.sheet.specs.Sheet.{Sheet}
 use Rattle.machine.specs.declared.End.{End}
 use Rattle.machine.specs.declared.End.the-variants.{Finished, Full, Refused}

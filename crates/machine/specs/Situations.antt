@@ -18,12 +18,12 @@ use Rattle.model.specs.declared.answer.Answer.the-variants.{Done, Linkage, Numb
 use Rattle.model.specs.Notices.{Notice}
 use Rattle.model.specs.Tables.{Tables, After}
 use Rattle.model.specs.Fresh.{freshHeads, freshAxis, freshTables}
-use Rattle.simset.specs.Procedures.{followOn, followed, precedeOn, preceded}
-use Rattle.simset.specs.Calls.{followStep, intoStep}
-use Rattle.simulation.specs.Plain.{Result, refused, done, dueFor, placed, noEffect, timed}
-use Rattle.simulation.specs.Plain as plain
-use Rattle.simulation.specs.Procedures.{seekFrom, found, dropOn, putOn, heldAt, held, passivated, cancelled, vain, dueAt, placeFor, scheduled, activated}
-use Rattle.simulation.specs.Calls.{holdStep, timedStep}
+use Rattle.sets.specs.Procedures.{followOn, followed, precedeOn, preceded}
+use Rattle.sets.specs.Calls.{followStep, intoStep}
+use Rattle.sequencing.specs.Plain.{Result, refused, done, dueFor, placed, noEffect, timed}
+use Rattle.sequencing.specs.Plain as plain
+use Rattle.sequencing.specs.Procedures.{seekFrom, found, dropOn, putOn, heldAt, held, passivated, cancelled, vain, dueAt, placeFor, scheduled, activated}
+use Rattle.sequencing.specs.Calls.{holdStep, timedStep}
 use Rattle.machine.specs.Machine.{Machine, fresh}
 use Rattle.machine.specs.Calls.{follow, into, ListCall, onSet, hold, activate, onList, listsAfter, perform}
 use Rattle.machine.specs.OnTables.{tablesAfter}

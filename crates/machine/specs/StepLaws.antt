@@ -10,11 +10,11 @@ use borrow.Author.Tests.{eq-eqb, ne-eqb, eqb-true, eqb-false}
 use Rattle.ring.specs.Lists.{In, decide, test, clash}
 use Rattle.ring.specs.Distinct.{Dist}
 use Rattle.model.specs.Notices.{Notice, whos, dueOf, InOrder}
-use Rattle.simulation.specs.NoticeOps.{dropped}
-use Rattle.simulation.specs.Orders.{Before, Next}
-use Rattle.simulation.specs.NoticeLaws.{Ins, ins-new, ins-in, ins-due, ins-own, drop-in, drop-gone, drop-due, drop-back}
-use Rattle.simulation.specs.Plain.{placed}
-use Rattle.simulation.specs.Ties.{PlacedTies, placed-ins, placed-ties}
+use Rattle.sequencing.specs.NoticeOps.{dropped}
+use Rattle.sequencing.specs.Orders.{Before, Next}
+use Rattle.sequencing.specs.NoticeLaws.{Ins, ins-new, ins-in, ins-due, ins-own, drop-in, drop-gone, drop-due, drop-back}
+use Rattle.sequencing.specs.Plain.{placed}
+use Rattle.sequencing.specs.Ties.{PlacedTies, placed-ins, placed-ties}
 use Rattle.machine.specs.History.{How, behind, nothing, places, howOf, Placed, isPlaced, Others, Stepwise}
 
 -- ---- calls that place nothing

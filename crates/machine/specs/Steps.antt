@@ -7,8 +7,8 @@ use lib.IntN.{pos}
 use lib.ListN.{getD}
 use Rattle.ring.specs.Lists.{if_then_else_}
 use Rattle.model.specs.Tables.{Lists, membersOf}
-use Rattle.simset.specs.Sets.{noLinks}
-use Rattle.simulation.specs.Plain.{Result, refused, done, current, time}
+use Rattle.sets.specs.Sets.{noLinks}
+use Rattle.sequencing.specs.Plain.{Result, refused, done, current, time}
 use Rattle.sheet.specs.declared.records.Record.{Record}
 use Rattle.sheet.specs.Sheet.{Sheet}
 use Rattle.machine.specs.declared.End.{End}

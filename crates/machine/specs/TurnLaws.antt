@@ -15,9 +15,9 @@ use Rattle.counts.specs.Counts.{Allowed, main}
 use Rattle.model.specs.Tables.{Tables, Lists, Spells}
 use Rattle.model.specs.Formed.{notice-each}
 use Rattle.model.specs.Once.{spelled-sized}
-use Rattle.simulation.specs.Plain.{Result, refused, done, current, time}
-use Rattle.simulation.specs.Meaning.{Follows, split}
-use Rattle.simulation.specs.Forward.{Later}
+use Rattle.sequencing.specs.Plain.{Result, refused, done, current, time}
+use Rattle.sequencing.specs.Meaning.{Follows, split}
+use Rattle.sequencing.specs.Forward.{Later}
 use Rattle.accumulator.specs.declared.Updated.{Updated}
 use Rattle.accumulator.specs.declared.Updated.the-variants.{To, Refused as NotUpdated}
 use Rattle.accumulator.specs.Update.{updatedOf}

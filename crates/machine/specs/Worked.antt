@@ -7,12 +7,12 @@ use lib.Dec.{eqb}
 use lib.IntN.{ℤ, pos}
 use lib.ListN.{getD}
 use Rattle.counts.specs.Refusals.{refusalNumber}
-use Rattle.simulation.specs.Plain.{dueFor, placed, noEffect, timed}
-use Rattle.simulation.specs.Plain as plain
+use Rattle.sequencing.specs.Plain.{dueFor, placed, noEffect, timed}
+use Rattle.sequencing.specs.Plain as plain
 use Rattle.accumulator.specs.Keeps.{zero-accumulator}
 use Rattle.accumulator.specs.Update.{mayUpdate, grownOf, updatedOf}
 use Rattle.sheet.specs.declared.records.Record.{Record}
-use Rattle.sheet.specs.Words.{u32At, u64At, i64At}
+use Rattle.words.specs.Words.{u32At, u64At, i64At}
 use Rattle.sheet.specs.Sheet.{countsOf, recordsOf, startAt, recordFrom, Sheet, sheetOf}
 use Rattle.sheet.specs.Examples.{worked}
 use Rattle.machine.specs.declared.End.{End}

@@ -2,21 +2,22 @@
 use Prim.Native.Nat.{ℕ, zero, suc, _+_, _*_, _-_, _<_, _≤_}
 use mathlib.Core.Path.{_≡_, refl, sym, ap, _∙_, subst}
 use mathlib.Core.Logic.{_≢_, _⊎_, inl, inr, ⊎-elim}
-use mathlib.Core.Bool.{_&&_}
+use mathlib.Core.Bool.{Bool, true, false, _&&_}
 use mathlib.Core.List.{List, [], _∷_}
 use native.Mathlib.Omega.{arith}
 use lib.ListN.{length, getD, replicate, length-replicate}
 use borrow.Author.Tests.{eq-eqb, eqb-true, eqb-false, ne-eqb, leb-true, leb-false}
-use Rattle.ring.specs.Lists.{if_then_else_, ahead, decide, zeros}
+use Rattle.ring.specs.Lists.{if_then_else_, ahead, decide, zeros, clash}
 use Rattle.ring.specs.Rings.{Link}
 use Rattle.ring.specs.Table.{selfLinked, linkedBefore}
 use Rattle.ring.specs.Stores.{sucs, pres, suc-at}
 use Rattle.ring.specs.Spell.{spells-before, spells-cong}
 use Rattle.ring.specs.Empty.{spells-empty, length-zeros, getD-zeros, self-length, self-s, self-p, other-s, other-p}
 use Rattle.counts.specs.declared.Counts.{Counts}
+use Rattle.counts.specs.declared.Refusal.{Refusal}
 use Rattle.counts.specs.declared.Refusal.the-variants.{Size}
-use Rattle.model.specs.declared.judge.Verdict.{Verdict}
-use Rattle.model.specs.declared.judge.Verdict.the-variants.{Fine, Refused}
+use Rattle.model.specs.declared.verdict.Verdict.{Verdict}
+use Rattle.model.specs.declared.verdict.Verdict.the-variants.{Fine, Refused}
 use Rattle.counts.specs.Counts.{inLimits, Allowed, total, main}
 use Rattle.model.specs.Notices.{dueOf}
 use Rattle.ring.specs.Tabulate.{listed, at-table}
@@ -50,6 +51,18 @@ freshLists c = record { sets = replicate (c .heads) []; notices = record { who =
 unfoldable pub freshed : Counts → Tables → After Verdict
 freshed c t =
     if inLimits c && lengthsFine c t then record { tables = freshTables c; answer = Fine } else record { tables = t; answer = Refused Size }
+
+-- a refused call changes nothing
+pub fresh-kept : (c : Counts) (t : Tables) (r : Refusal) → freshed c t .answer ≡ Refused r → freshed c t .tables ≡ t
+unfolding freshed
+fresh-kept c t r e = go (inLimits c && lengthsFine c t) e
+  where
+    after : Bool → After Verdict
+    after b = if b then record { tables = freshTables c; answer = Fine } else record { tables = t; answer = Refused Size }
+
+    go : (b : Bool) → after b .answer ≡ Refused r → after b .tables ≡ t
+    go true q = let z : false ≡ true = cc in clash z
+    go false q = refl
 
 -- ---- the links
 

@@ -9,8 +9,8 @@ use Rattle.ring.specs.Stores.{sucs, pres}
 use Rattle.ring.specs.Judge.{idle, ringsFine}
 use Rattle.counts.specs.declared.Counts.{Counts}
 use Rattle.counts.specs.declared.Refusal.the-variants.{Size, Malformed}
-use Rattle.model.specs.declared.judge.Verdict.{Verdict}
-use Rattle.model.specs.declared.judge.Verdict.the-variants.{Fine, Refused}
+use Rattle.model.specs.declared.verdict.Verdict.{Verdict}
+use Rattle.model.specs.declared.verdict.Verdict.the-variants.{Fine, Refused}
 use Rattle.counts.specs.Counts.{inLimits, total, limit}
 use Rattle.model.specs.Tables.{Tables}
 

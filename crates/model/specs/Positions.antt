@@ -11,8 +11,8 @@ use borrow.Author.Tests.{eq-eqb, ne-eqb, eqb-true, lt-ltb, le-ltb}
 use Rattle.ring.specs.Lists.{decide, below, test, clash}
 use Rattle.counts.specs.declared.Counts.{Counts}
 use Rattle.counts.specs.declared.Refusal.the-variants.{Size, Malformed}
-use Rattle.model.specs.declared.judge.Verdict.{Verdict}
-use Rattle.model.specs.declared.judge.Verdict.the-variants.{Fine, Refused}
+use Rattle.model.specs.declared.verdict.Verdict.{Verdict}
+use Rattle.model.specs.declared.verdict.Verdict.the-variants.{Fine, Refused}
 use Rattle.model.specs.Judge.{positionsFine, positionsJudged}
 
 module _ (R : ℕ) (positions : List ℕ) where

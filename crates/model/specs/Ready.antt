@@ -12,7 +12,7 @@ use Rattle.ring.specs.Table.{Sound}
 use Rattle.ring.specs.Stores.{sucs, pres, suc-at}
 use Rattle.ring.specs.Spell.{spells-sound}
 use Rattle.counts.specs.declared.Counts.{Counts}
-use Rattle.model.specs.declared.judge.Verdict.the-variants.{Fine}
+use Rattle.model.specs.declared.verdict.Verdict.the-variants.{Fine}
 use Rattle.counts.specs.Counts.{Allowed, total, limit}
 use Rattle.model.specs.Notices.{places}
 use Rattle.model.specs.Tables.{Tables, Lengths, Lists, Sized, setHead, axisHead, membersOf, Spells}

@@ -9,8 +9,8 @@ use borrow.Author.Tests.{eq-eqb, eqb-true, not-true, not-false}
 use Rattle.ring.specs.Lists.{test, clash}
 use Rattle.counts.specs.declared.Counts.{Counts}
 use Rattle.counts.specs.declared.Refusal.the-variants.{Size, Malformed}
-use Rattle.model.specs.declared.judge.Verdict.{Verdict}
-use Rattle.model.specs.declared.judge.Verdict.the-variants.{Fine, Refused}
+use Rattle.model.specs.declared.verdict.Verdict.{Verdict}
+use Rattle.model.specs.declared.verdict.Verdict.the-variants.{Fine, Refused}
 use Rattle.counts.specs.Counts.{inLimits, total, both, and-on, limits-allowed, allowed-limits}
 use Rattle.model.specs.Tables.{Tables, Lengths, Sized, WellFormed}
 use Rattle.model.specs.Judge.{lengthsFine, tablesFine, judged}

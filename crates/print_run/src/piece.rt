@@ -3,10 +3,10 @@ use crate::output::flushed;
 use crate::output::put_count;
 use crate::output::put_number;
 use machine::End;
-use runner::Ran;
 use runner::run;
-use sheet::words::u32_at;
-use sheet::words::u64_at;
+use runs::Ran;
+use words::u32_at;
+use words::u64_at;
 ghost use Prim.Native.Nat.{_+_, _≤_};
 ghost use lib.ListN.{length};
 

@@ -1,8 +1,8 @@
 // A run's answer as a number: lines × 256 + code.
-use crate::Ran;
 use machine::End;
+use runs::Ran;
 ghost use mathlib.Core.Path.{_≡_};
-ghost use Rattle.runner.specs.Run.{endCode, ranNumber};
+ghost use Rattle.runs.specs.Run.{endCode, ranNumber};
 
 // 0 finished, 200 full, else the refusal's number.
 pub fn end_code(e: End) -> u32

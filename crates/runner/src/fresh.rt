@@ -1,20 +1,20 @@
 // The tables of a fresh run: the fresh model, the sheet's starts, zeros.
 use counts::Refusal;
-use model::fresh;
-use model::judge::Verdict;
+use model::verdict::Verdict;
 use ring::wide;
 use sheet::check::check;
 use sheet::header::Checked;
 use sheet::header::Header;
 use sheet::records::start_at;
+use tables::fresh;
 ghost use mathlib.Core.Path.{_≡_};
 ghost use Prim.Native.Nat.{_+_, _*_, _≤_};
 ghost use lib.IntN.{pos};
 ghost use lib.ListN.{length, replicate};
 ghost use Rattle.sheet.specs.Accepted.{checked};
 ghost use Rattle.sheet.specs.declared.header.Checked.the-variants.{Accepted};
-ghost use Rattle.runner.specs.Run.{lent};
-ghost use Rattle.runner.specs.Fresh.{startsAre, filledFor, filled};
+ghost use Rattle.runs.specs.Run.{lent};
+ghost use Rattle.runs.specs.Fresh.{startsAre, filledFor, filled};
 
 // Each process at the record where it begins.
 fn fill_starts(sheet: &[u8], processes: u32, positions: &mut [u32])

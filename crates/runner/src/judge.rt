@@ -1,13 +1,13 @@
 // Refusals 1 and 2 of a run: lengths first, then what the tables hold.
 use counts::Counts;
 use counts::Refusal;
-use model::judge::Verdict;
-use model::judge::judge_positions;
-use model::judge::judge_tables;
-use model::judge::lengths_fine;
+use model::verdict::Verdict;
 use ring::wide;
+use tables::judge::judge_positions;
+use tables::judge::judge_tables;
+use tables::judge::lengths_fine;
 ghost use mathlib.Core.Path.{_≡_};
-ghost use Rattle.runner.specs.Run.{lent, runJudged};
+ghost use Rattle.runs.specs.Run.{lent, runJudged};
 
 // 64 accumulators of three words.
 pub const WORDS: usize = 192;

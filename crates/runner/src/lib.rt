@@ -12,21 +12,16 @@ use crate::judge::judge_run;
 use crate::turns::turns;
 use counts::Refusal;
 use machine::End;
-use model::judge::Verdict;
+use model::verdict::Verdict;
+use runs::Ran;
 use sheet::check::check;
 use sheet::header::Checked;
 use sheet::header::Header;
 ghost use mathlib.Core.Path.{_≡_};
 ghost use Rattle.sheet.specs.Accepted.{checked};
 ghost use Rattle.sheet.specs.declared.header.Checked.the-variants.{Accepted};
-ghost use Rattle.runner.specs.Starting.{Startable, startedOn};
-ghost use Rattle.runner.specs.Run.{lent, refusedRan, checkedRun, runOn};
-
-// What a run call answers: how many lines it wrote, and how it ended.
-pub struct Ran {
-    pub lines: u32,
-    pub end: End,
-}
+ghost use Rattle.runs.specs.Starting.{Startable, startedOn};
+ghost use Rattle.runs.specs.Run.{lent, refusedRan, checkedRun, runOn};
 
 fn refused(q: Refusal) -> Ran
     ensures { λ r. ⌜ r ≡ refusedRan q ⌝ }

@@ -1,5 +1,5 @@
 // The call of a record whose operands are resolved, on judged tables.
-use accumulator::flat::update_in;
+use accum::flat::update_in;
 use counts::Counts;
 use counts::Refusal;
 use model::answer::Answer;
@@ -18,10 +18,10 @@ use simulation::steps::wait;
 ghost use mathlib.Core.Path.{_≡_};
 ghost use Rattle.counts.specs.Counts.{isHead};
 ghost use Rattle.model.specs.declared.answer.Answer.the-variants.{Done};
-ghost use Rattle.simset.specs.Calls.{telling};
+ghost use Rattle.sets.specs.Calls.{telling};
 ghost use Rattle.machine.specs.OnTables.{carriedOut};
-ghost use Rattle.runner.specs.Needs.{Performable};
-ghost use Rattle.runner.specs.Run.{callDue};
+ghost use Rattle.runs.specs.Needs.{Performable};
+ghost use Rattle.runs.specs.Run.{callDue};
 
 // 12: x is a head, or refusal 3.
 pub(crate) fn head_asked(c: Counts, x: u32) -> Answer

@@ -12,13 +12,13 @@ ghost use lib.Dec.{eqb};
 ghost use lib.ListN.{length, getD};
 ghost use Rattle.ring.specs.Table.{Sound};
 ghost use Rattle.counts.specs.Counts.{total};
-ghost use Rattle.simset.specs.Procedures.{emptyOf};
-ghost use Rattle.simulation.specs.Promise.{Judged};
+ghost use Rattle.sets.specs.Procedures.{emptyOf};
+ghost use Rattle.sequencing.specs.Promise.{Judged};
 ghost use Rattle.sheet.specs.Sheet.{recordOffset};
 ghost use Rattle.machine.specs.Steps.{nextOf};
 ghost use Rattle.machine.specs.OnTables.{placeNow, operandAt};
-ghost use Rattle.runner.specs.Needs.{Readable};
-ghost use Rattle.runner.specs.Run.{recordGot, dueNow, endsNow};
+ghost use Rattle.runs.specs.Needs.{Readable};
+ghost use Rattle.runs.specs.Run.{recordGot, dueNow, endsNow};
 
 // Current's place in the axis.
 pub(crate) fn place_now(c: Counts, axis: &[u32]) -> u32

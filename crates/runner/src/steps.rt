@@ -4,21 +4,15 @@ use crate::perform::perform;
 use crate::reading::due;
 use crate::reading::place_now;
 use counts::Counts;
-use counts::Refusal;
 use model::answer::Answer;
 use ring::wide;
+use runs::Turned;
 use trace::put_line;
 ghost use mathlib.Core.Path.{_≡_};
 ghost use Prim.Native.Nat.{_+_, _≤_};
 ghost use lib.ListN.{length};
-ghost use Rattle.runner.specs.Run.{lent, turnedOf, recordAtNow, stepOn};
-ghost use Rattle.runner.specs.Standing.{Standing};
-
-// Whether the run goes on, and at which record the process does.
-pub enum Turned {
-    On(u32),
-    Refused(Refusal),
-}
+ghost use Rattle.runs.specs.Run.{lent, turnedOf, recordAtNow, stepOn};
+ghost use Rattle.runs.specs.Standing.{Standing};
 
 // What a call's answer means for the run.
 pub(crate) fn goes_on(a: Answer, next: u32) -> Turned

@@ -1,19 +1,19 @@
 // Turn after turn on judged tables, until main has finished, the trace is full or a step is refused. The last process's position is
 // kept beside its table, so that a process which stays current needs no read.
-use crate::Ran;
 use crate::reading::ends_now;
 use crate::reading::is_end;
 use crate::reading::place_now;
 use crate::reading::position;
-use crate::steps::Turned;
 use crate::steps::step;
 use counts::Counts;
 use machine::End;
+use runs::Ran;
+use runs::Turned;
 ghost use mathlib.Core.Path.{_≡_};
 ghost use Prim.Native.Nat.{_/_, _≤_};
 ghost use lib.ListN.{length};
-ghost use Rattle.runner.specs.Run.{lent, turnsOn};
-ghost use Rattle.runner.specs.Standing.{Standing};
+ghost use Rattle.runs.specs.Run.{lent, turnsOn};
+ghost use Rattle.runs.specs.Standing.{Standing};
 
 // A count of lines, at most 4,096.
 fn count(n: usize) -> u32

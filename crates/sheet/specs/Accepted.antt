@@ -10,7 +10,7 @@ use Rattle.counts.specs.Counts.{inLimits, total, isHead}
 use Rattle.counts.specs.declared.Counts.{Counts}
 use Rattle.counts.specs.declared.Refusal.the-variants.{Layout}
 use Rattle.sheet.specs.AllTo.{allTo}
-use Rattle.sheet.specs.Words.{u8At}
+use Rattle.words.specs.Words.{u8At}
 use Rattle.sheet.specs.Sheet.{countsOf, recordsOf, startAt, recordOffset, recordFrom}
 use Rattle.sheet.specs.Operations.{usesOf}
 use Rattle.sheet.specs.declared.header.Header.{Header}

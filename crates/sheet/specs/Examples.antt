@@ -7,7 +7,7 @@ use lib.IntN.{pos}
 use lib.ListN.{set, take}
 use Rattle.counts.specs.Counts.{inLimits}
 use Rattle.sheet.specs.AllTo.{allTo}
-use Rattle.sheet.specs.Words.{u32At, u64At, i64At}
+use Rattle.words.specs.Words.{u32At, u64At, i64At}
 use Rattle.sheet.specs.Sheet.{countsOf, recordsOf, startAt, recordFrom, sheetOf}
 use Rattle.sheet.specs.Operations.{rowOf, under}
 use Rattle.sheet.specs.Accepted.{sized, sizeFine, isOperand, mayHold, fieldsFine, recordFine, layoutFine, accepted}

@@ -1,7 +1,5 @@
 -- Model sheets: words, what the bytes say, the table of operations, and which sheets are accepted.
 pub mod AllTo
-pub mod Words
-pub mod Signed
 pub mod Operations
 pub mod Sheet
 pub mod Accepted

@@ -15,7 +15,7 @@ use borrow.Author.Tests.{le-leb, lt-leb, eq-eqb, ne-eqb, not-true, not-false}
 use Rattle.counts.specs.Counts.{total, isHead, and-off, and-on}
 use Rattle.counts.specs.declared.Counts.{Counts}
 use Rattle.counts.specs.declared.Refusal.the-variants.{Layout}
-use Rattle.sheet.specs.Words.{u8At, u32At, i64At}
+use Rattle.words.specs.Words.{u8At, u32At, i64At}
 use Rattle.sheet.specs.Sheet.{recordOffset, recordFrom}
 use Rattle.sheet.specs.Operations.{usesOf}
 use Rattle.sheet.specs.Accepted.{lengthOf, sizeFine, isOperand, mayHold, fieldsFine, recordFine, padFine, layoutFine, answer}

@@ -1,9 +1,9 @@
 // A sheet's header: the counts, the number of records, and the exact length that follows from them.
-use crate::words::u32_at;
 use counts::Counts;
 use counts::CountsMade;
 use counts::Refusal;
 use ring::wide;
+use words::u32_at;
 ghost use mathlib.Core.Path.{_≡_};
 ghost use Prim.Native.Nat.{_≤_};
 ghost use lib.ListN.{length};

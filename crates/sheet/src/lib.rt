@@ -4,4 +4,3 @@ pub mod fields;
 pub mod header;
 pub mod operations;
 pub mod records;
-pub mod words;

@@ -1,8 +1,8 @@
 // The fields of a sheet, read where they lie. Core functions: the caller knows that they lie within the sheet.
-use crate::words::i64_at;
-use crate::words::u8_at;
-use crate::words::u32_at;
 use ring::wide;
+use words::i64_at;
+use words::u8_at;
+use words::u32_at;
 ghost use mathlib.Core.Path.{_≡_};
 ghost use Prim.Native.Nat.{_+_, _≤_};
 ghost use lib.ListN.{length};

@@ -6,8 +6,8 @@ use mathlib.Core.List.{List}
 use native.Mathlib.Omega.{arith}
 use lib.ListN.{getD}
 use Rattle.ring.specs.Table.{Sound, Made, unlinked, linkedBehind, linkedBefore}
-use Rattle.simset.specs.Procedures.{followOn, followed, precedeOn, preceded, clearing, cleared}
-use Rattle.simset.specs.Moves.{follow-none, follow-off, follow-on, precede-none, precede-off, precede-on, followed-is, preceded-is, clearing-none, clearing-done, clearing-on, cleared-is}
+use Rattle.sets.specs.Procedures.{followOn, followed, precedeOn, preceded, clearing, cleared}
+use Rattle.sets.specs.Moves.{follow-none, follow-off, follow-on, precede-none, precede-off, precede-on, followed-is, preceded-is, clearing-none, clearing-done, clearing-on, cleared-is}
 
 module _ (m x y : ℕ) (t u : List ℕ) (a : ℕ) (ax : a ≡ x) (out : Made m (unlinked m a t) u) where
   u-is : u ≡ unlinked m x t

@@ -6,7 +6,7 @@ use ring::wide;
 ghost use mathlib.Core.Path.{_≡_};
 ghost use Prim.Native.Nat.{_<_};
 ghost use Rattle.ring.specs.Table.{Sound, Made};
-ghost use Rattle.simset.specs.Procedures.{followed, preceded, cleared, linkOr};
+ghost use Rattle.sets.specs.Procedures.{followed, preceded, cleared, linkOr};
 
 // Takes x out, then puts it behind y if y is on a ring.
 pub fn follow(t: &mut [u32], m: usize, x: u32, y: u32)

@@ -10,8 +10,8 @@ ghost use mathlib.Core.Path.{_≡_};
 ghost use Prim.Native.Nat.{_+_};
 ghost use Rattle.ring.specs.Table.{Sound};
 ghost use Rattle.counts.specs.Counts.{total, isHead, isLinkage};
-ghost use Rattle.simset.specs.Calls.{orNone, outStep, followStep, precedeStep, intoStep, clearStep, firstTold, lastTold, sucTold, predTold, emptyTold, cardinalTold};
-ghost use Rattle.simset.specs.Promise.{Moved};
+ghost use Rattle.sets.specs.Calls.{orNone, outStep, followStep, precedeStep, intoStep, clearStep, firstTold, lastTold, sucTold, predTold, emptyTold, cardinalTold};
+ghost use Rattle.sets.specs.Promise.{Moved};
 
 // A linkage, or none.
 pub fn linkage_or_none(c: Counts, y: u32) -> bool

@@ -1,12 +1,12 @@
 // The public queries of SIMULATION: lent the whole model, refusing in the order 1, 2, 3, then the rest.
 use counts::Counts;
 use model::answer::Answer;
-use model::judge::Verdict;
-use model::judge::judge_tables;
+use model::verdict::Verdict;
 use simulation::reading;
+use tables::judge::judge_tables;
 ghost use mathlib.Core.Path.{_≡_};
 ghost use Rattle.model.specs.Answers.{asked};
-ghost use Rattle.simulation.specs.Calls.{sqsOf, currentTold, timeTold, idleTold, terminatedTold, evtimeTold, nextevTold};
+ghost use Rattle.sequencing.specs.Calls.{sqsOf, currentTold, timeTold, idleTold, terminatedTold, evtimeTold, nextevTold};
 
 // The process of the first notice.
 pub fn current(c: Counts, links: &[u32], axis: &[u32], times: &[u64], marks: &[u8]) -> Answer

@@ -13,8 +13,8 @@ use Rattle.counts.specs.Counts.{limit}
 use Rattle.counts.specs.declared.Refusal.the-variants.{NoNotice, TimeLimit}
 use Rattle.model.specs.declared.answer.Answer.{Answer}
 use Rattle.model.specs.declared.answer.Answer.the-variants.{Done, Refused}
-use Rattle.simulation.specs.Procedures.{Sqs, made, found, dropOn, putOn, heldAt, held, passivated, cancelled, finishedMarks, dueAt, placeFor, scheduled, activated}
-use Rattle.simulation.specs.Promise.{sqs, Left, Answers, AnswersMarked, Place, Stored, Read, Lone, Vain, Beside, Due, capped-in, capped-out}
+use Rattle.sequencing.specs.Procedures.{Sqs, made, found, dropOn, putOn, heldAt, held, passivated, cancelled, finishedMarks, dueAt, placeFor, scheduled, activated}
+use Rattle.sequencing.specs.Promise.{sqs, Left, Answers, AnswersMarked, Place, Stored, Read, Lone, Vain, Beside, Due, capped-in, capped-out}
 
 pub dropped-by : (m x y z : ℕ) (a a′ t t′ : List ℕ) → y ≡ x → Made m (unlinked m y a) a′ → z ≡ x → Stored z 0 t t′ → Left m (dropOn m x (sqs a t)) a′ t′
 unfolding dropOn

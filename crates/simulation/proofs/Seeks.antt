@@ -6,9 +6,9 @@ use mathlib.Core.List.{List}
 use native.Mathlib.Omega.{arith}
 use lib.ListN.{getD}
 use Rattle.ring.specs.Table.{Sound}
-use Rattle.simulation.specs.Procedures.{seekFrom, found}
-use Rattle.simulation.specs.Promise.{sqs, Place, Read}
-use Rattle.simulation.specs.Seek.{seek-zero, seek-head, seek-back, seek-front, seek-on}
+use Rattle.sequencing.specs.Procedures.{seekFrom, found}
+use Rattle.sequencing.specs.Promise.{sqs, Place, Read}
+use Rattle.sequencing.specs.Seek.{seek-zero, seek-head, seek-back, seek-front, seek-on}
 
 pub record Seeks (t : List ℕ) (m : ℕ) (times : List ℕ) (w f b n : ℕ) : Type 0 where
   pub at-f : f < m

@@ -15,9 +15,9 @@ ghost use mathlib.Core.Path.{_≡_};
 ghost use Prim.Native.Nat.{_+_, _<_, _≤_};
 ghost use Rattle.ring.specs.Table.{Sound};
 ghost use Rattle.counts.specs.Counts.{limit};
-ghost use Rattle.simulation.specs.Procedures.{placeFor, scheduled, activated};
-ghost use Rattle.simulation.specs.Plain.{above};
-ghost use Rattle.simulation.specs.Promise.{sqs, Left, Answers, Place, Vain, Beside, Due};
+ghost use Rattle.sequencing.specs.Procedures.{placeFor, scheduled, activated};
+ghost use Rattle.sequencing.specs.Plain.{above};
+ghost use Rattle.sequencing.specs.Promise.{sqs, Left, Answers, Place, Vain, Beside, Due};
 
 // Whether ACTIVATE has no effect.
 pub(crate) fn is_vain(

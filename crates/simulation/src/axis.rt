@@ -8,8 +8,8 @@ ghost use mathlib.Core.Path.{_≡_};
 ghost use Prim.Native.Nat.{_+_, _-_, _<_, _≤_};
 ghost use lib.ListN.{getD};
 ghost use Rattle.ring.specs.Table.{Sound};
-ghost use Rattle.simulation.specs.Procedures.{found, dropOn, putOn};
-ghost use Rattle.simulation.specs.Promise.{sqs, Left, Place, Read, Stored, Lone, First, capped};
+ghost use Rattle.sequencing.specs.Procedures.{found, dropOn, putOn};
+ghost use Rattle.sequencing.specs.Promise.{sqs, Left, Place, Read, Stored, Lone, First, capped};
 
 // The time at a place, 0 past the table's end.
 pub(crate) fn due(times: &[u64], i: usize) -> u64

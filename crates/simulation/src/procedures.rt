@@ -15,8 +15,8 @@ ghost use mathlib.Core.Path.{_≡_};
 ghost use Prim.Native.Nat.{_<_, _≤_};
 ghost use Rattle.ring.specs.Table.{Sound};
 ghost use Rattle.counts.specs.Counts.{limit};
-ghost use Rattle.simulation.specs.Procedures.{heldAt, held, passivated, cancelled, finishedMarks};
-ghost use Rattle.simulation.specs.Promise.{sqs, Left, Answers, AnswersMarked, First, Led};
+ghost use Rattle.sequencing.specs.Procedures.{heldAt, held, passivated, cancelled, finishedMarks};
+ghost use Rattle.sequencing.specs.Promise.{sqs, Left, Answers, AnswersMarked, First, Led};
 
 // x's notice gets the time u; where the next is due by then, it goes behind all due by then.
 pub(crate) fn hold_at(axis: &mut [u32], m: usize, times: &mut [u64], x: u32, u: u64)

@@ -9,8 +9,8 @@ use model::answer::Answer;
 use ring::wide;
 ghost use mathlib.Core.Path.{_≡_};
 ghost use Prim.Native.Nat.{_+_, _≤_};
-ghost use Rattle.simulation.specs.Calls.{currentTold, timeTold, idleTold, terminatedTold, evtimeTold, nextevTold};
-ghost use Rattle.simulation.specs.Promise.{sqs, Judged};
+ghost use Rattle.sequencing.specs.Calls.{currentTold, timeTold, idleTold, terminatedTold, evtimeTold, nextevTold};
+ghost use Rattle.sequencing.specs.Promise.{sqs, Judged};
 
 pub fn current(c: Counts, axis: &[u32], times: &[u64]) -> Answer
     requires { ⌜ Judged c (now axis) ⌝ }

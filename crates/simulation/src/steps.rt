@@ -15,11 +15,11 @@ ghost use mathlib.Core.Path.{_≡_};
 ghost use Prim.Native.Nat.{_+_, _-_, _<_, _≤_};
 ghost use Rattle.ring.specs.Table.{Sound};
 ghost use Rattle.counts.specs.Counts.{isProcess, total, placeOf};
-ghost use Rattle.simset.specs.Calls.{orNone};
-ghost use Rattle.simulation.specs.Plain.{timedNeed};
-ghost use Rattle.simulation.specs.Calls.{half, yPlace, holdStep, passivateStep, cancelStep, timedStep, finishStep, waitStep};
-ghost use Rattle.simulation.specs.Promise.{sqs, Answers, Judged};
-ghost use Rattle.simulation.specs.StepPromise.{FinishMade, WaitMade};
+ghost use Rattle.sets.specs.Calls.{orNone};
+ghost use Rattle.sequencing.specs.Plain.{timedNeed};
+ghost use Rattle.sequencing.specs.Calls.{half, yPlace, holdStep, passivateStep, cancelStep, timedStep, finishStep, waitStep};
+ghost use Rattle.sequencing.specs.Promise.{sqs, Answers, Judged};
+ghost use Rattle.sequencing.specs.StepPromise.{FinishMade, WaitMade};
 
 // A process, or none.
 pub fn process_or_none(c: Counts, x: u32) -> bool

@@ -1,5 +1,5 @@
 use Rattle.host.specs.Arrays.{links-in, axis-in, one-in, links-part, axis-part, one-part, lent-startable}
-use Rattle.runner.specs.Run.{RanOn}
+use Rattle.runs.specs.Run.{RanOn}
 use mathlib.Core.Path.{ap}
 use borrow.Author.Needs.{needs}
 use Rattle.host.proofs.run_here.Statement.{statement}

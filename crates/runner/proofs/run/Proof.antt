@@ -1,4 +1,4 @@
-use Rattle.runner.specs.RunIs as is
+use Rattle.runs.specs.RunIs as is
 use mathlib.Core.Path.{sym, _∙_}
 use borrow.Author.Needs.{needs}
 use Rattle.runner.proofs.run.Statement.{statement}

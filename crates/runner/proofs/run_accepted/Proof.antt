@@ -1,5 +1,5 @@
-use Rattle.runner.specs.Judging.{fine-standing}
-use Rattle.runner.specs.RunIs.{run-judged, run-turns}
+use Rattle.runs.specs.Judging.{fine-standing}
+use Rattle.runs.specs.RunIs.{run-judged, run-turns}
 use mathlib.Core.Path.{sym, _∙_}
 use borrow.Author.Needs.{needs}
 use Rattle.runner.proofs.run_accepted.Statement.{statement}

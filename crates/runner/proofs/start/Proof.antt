@@ -1,4 +1,4 @@
-use Rattle.runner.specs.Starting.{filled-standing, started-is}
+use Rattle.runs.specs.Starting.{filled-standing, started-is}
 use borrow.Author.Needs.{needs}
 use Rattle.runner.proofs.start.Statement.{statement}
 use Rattle.runner.proofs.start.Tie as tie

@@ -1,4 +1,4 @@
-use Rattle.runner.specs.Parts.{part-length}
+use Rattle.runs.specs.Parts.{part-length}
 use mathlib.Core.Path.{sym}
 use borrow.Author.Needs.{needs}
 use native.Mathlib.Omega.{arith}

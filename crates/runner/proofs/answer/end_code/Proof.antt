@@ -1,5 +1,5 @@
 use mathlib.Core.Path.{sym, ap, _∙_}
-use Rattle.runner.specs.Run.{endCode}
+use Rattle.runs.specs.Run.{endCode}
 use borrow.Author.Needs.{needs}
 use Rattle.runner.proofs.answer.end_code.Statement.{statement}
 use Rattle.runner.proofs.answer.end_code.Tie as tie

@@ -1,6 +1,6 @@
 use mathlib.Core.Path.{ap₂, _∙_}
 use Prim.Native.Nat.{ℕ, _+_, _*_}
-use Rattle.runner.specs.Run.{ranNumber}
+use Rattle.runs.specs.Run.{ranNumber}
 use borrow.Author.Needs.{needs}
 use Rattle.runner.proofs.answer.number.Statement.{statement}
 use Rattle.runner.proofs.answer.number.Tie as tie

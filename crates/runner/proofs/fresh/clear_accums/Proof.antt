@@ -1,4 +1,4 @@
-use Rattle.runner.specs.Filling.{Cleared, cleared-start, cleared-turn, cleared-out}
+use Rattle.runs.specs.Filling.{Cleared, cleared-start, cleared-turn, cleared-out}
 use Prim.Native.Nat.{_-_}
 use lib.ListN.{length}
 use mathlib.Core.Path.{refl}

@@ -1,5 +1,5 @@
-use Rattle.runner.specs.Filling.{at}
-use Rattle.runner.specs.Filling.{fill-positions, fill-words, starts-inside, fill-model, fill-all}
+use Rattle.runs.specs.Filling.{at}
+use Rattle.runs.specs.Filling.{fill-positions, fill-words, starts-inside, fill-model, fill-all}
 use borrow.Author.Needs.{needs}
 use Rattle.runner.proofs.fresh.fill.Statement.{statement}
 use Rattle.runner.proofs.fresh.fill.Tie as tie

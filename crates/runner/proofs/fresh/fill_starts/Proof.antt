@@ -1,4 +1,4 @@
-use Rattle.runner.specs.Filling.{Starting, starting, start-inside, starting-turn, starting-out}
+use Rattle.runs.specs.Filling.{Starting, starting, start-inside, starting-turn, starting-out}
 use Prim.Native.Nat.{_-_}
 use borrow.Author.Needs.{needs}
 use native.Mathlib.Omega.{arith}

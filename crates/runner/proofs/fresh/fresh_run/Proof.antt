@@ -1,4 +1,4 @@
-use Rattle.runner.specs.Filling.{filled-8, filled-accepted}
+use Rattle.runs.specs.Filling.{filled-8, filled-accepted}
 use mathlib.Core.Path.{sym, _∙_}
 use borrow.Author.Needs.{needs}
 use Rattle.runner.proofs.fresh.fresh_run.Statement.{statement}

@@ -1,4 +1,4 @@
-use Rattle.runner.specs.Judging.{model-sizes, positions-size, words-size, trace-size, tables-not, tables-fine}
+use Rattle.runs.specs.Judging.{model-sizes, positions-size, words-size, trace-size, tables-not, tables-fine}
 use borrow.Author.Needs.{needs}
 use Rattle.runner.proofs.judge.judge_run.Statement.{statement}
 use Rattle.runner.proofs.judge.judge_run.Tie as tie

@@ -1,4 +1,4 @@
-use Rattle.simset.specs.Promise.{failed, passed}
+use Rattle.sets.specs.Promise.{failed, passed}
 use borrow.Author.Needs.{needs}
 use Rattle.runner.proofs.perform.head_asked.Statement.{statement}
 use Rattle.runner.proofs.perform.head_asked.Tie as tie

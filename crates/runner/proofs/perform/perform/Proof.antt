@@ -1,5 +1,5 @@
-use Rattle.simulation.specs.Promise.{ready-judged}
-use Rattle.runner.specs.Arms.{call-0, call-1, call-2, call-3, call-4, call-5, call-6, call-7, call-8, call-9, call-timed, call-12, call-13, set-arm, hold-arm, passivate-arm, cancel-arm, timed-arm, finish-arm, wait-arm, head-arm, accum-arm, the-rest}
+use Rattle.sequencing.specs.Promise.{ready-judged}
+use Rattle.runs.specs.Arms.{call-0, call-1, call-2, call-3, call-4, call-5, call-6, call-7, call-8, call-9, call-timed, call-12, call-13, set-arm, hold-arm, passivate-arm, cancel-arm, timed-arm, finish-arm, wait-arm, head-arm, accum-arm, the-rest}
 use Rattle.machine.specs.Calls.{out, follow, precede, into, clear}
 use Rattle.accumulator.specs.Signed.{word, kept}
 use lib.Dec.{eqb}

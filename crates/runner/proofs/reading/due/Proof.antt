@@ -1,4 +1,4 @@
-use Rattle.runner.specs.Reads.{x-fine, y-fine, place-fine, due-is}
+use Rattle.runs.specs.Reads.{x-fine, y-fine, place-fine, due-is}
 use Rattle.accumulator.specs.Signed.{word, kept}
 use Rattle.runner.proofs.reading.due.Statement.{statement}
 use Rattle.runner.proofs.reading.due.Tie as tie

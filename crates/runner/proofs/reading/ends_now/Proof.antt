@@ -1,4 +1,4 @@
-use Rattle.runner.specs.Reads.{ends-other, ends-main}
+use Rattle.runs.specs.Reads.{ends-other, ends-main}
 use borrow.Author.Needs.{needs}
 use Rattle.runner.proofs.reading.ends_now.Statement.{statement}
 use Rattle.runner.proofs.reading.ends_now.Tie as tie

@@ -1,4 +1,4 @@
-use Rattle.runner.specs.Reads.{next-plain, next-empty, next-busy}
+use Rattle.runs.specs.Reads.{next-plain, next-empty, next-busy}
 use borrow.Author.Needs.{needs}
 use native.Mathlib.Omega.{arith}
 use Rattle.runner.proofs.reading.next_of.Statement.{statement}

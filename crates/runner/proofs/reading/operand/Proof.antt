@@ -1,4 +1,4 @@
-use Rattle.runner.specs.Reads.{operand-low, operand-current, operand-first}
+use Rattle.runs.specs.Reads.{operand-low, operand-current, operand-first}
 use borrow.Author.Needs.{needs}
 use Rattle.runner.proofs.reading.operand.Statement.{statement}
 use Rattle.runner.proofs.reading.operand.Tie as tie

@@ -1,4 +1,4 @@
-use Rattle.runner.specs.Reads.{got-end, got-record}
+use Rattle.runs.specs.Reads.{got-end, got-record}
 use native.Mathlib.Omega.{arith}
 use Rattle.runner.proofs.reading.record_got.Statement.{statement}
 use Rattle.runner.proofs.reading.record_got.Tie as tie

@@ -1,6 +1,6 @@
 use mathlib.Core.Path.{sym, ap}
 use Rattle.model.specs.declared.answer.Answer.{Answer}
-use Rattle.runner.specs.Run.{turnedOf}
+use Rattle.runs.specs.Run.{turnedOf}
 use borrow.Author.Needs.{needs}
 use Rattle.runner.proofs.steps.goes_on.Statement.{statement}
 use Rattle.runner.proofs.steps.goes_on.Tie as tie

@@ -1,6 +1,6 @@
-use Rattle.runner.specs.Run.{lent}
-use Rattle.runner.specs.Standing.{its-judged, ready, in-positions, in-times, time-is, its-record, due-here, its-call, number-in}
-use Rattle.runner.specs.StepIs.{step-off, step-on}
+use Rattle.runs.specs.Run.{lent}
+use Rattle.runs.specs.Standing.{its-judged, ready, in-positions, in-times, time-is, its-record, due-here, its-call, number-in}
+use Rattle.runs.specs.StepIs.{step-off, step-on}
 use mathlib.Core.Path.{refl}
 use borrow.Author.Needs.{needs}
 use native.Mathlib.Omega.{arith}

@@ -1,7 +1,7 @@
-use Rattle.runner.specs.Run.{lent}
-use Rattle.runner.specs.Reads.{ends-at, record-here}
-use Rattle.runner.specs.Turning.{Turning, turning-start, turning-on, turning-at, most-lines, line-fits, out-finished, out-full, in-finished, step-refused, same-lengths}
-use Rattle.runner.specs.Standing.{its-judged, in-positions, positions-length}
+use Rattle.runs.specs.Run.{lent}
+use Rattle.runs.specs.Reads.{ends-at, record-here}
+use Rattle.runs.specs.Turning.{Turning, turning-start, turning-on, turning-at, most-lines, line-fits, out-finished, out-full, in-finished, step-refused, same-lengths}
+use Rattle.runs.specs.Standing.{its-judged, in-positions, positions-length}
 use mathlib.Core.Path.{_≡_, refl, sym, _∙_}
 use Prim.Native.Nat.{_-_}
 use lib.ListN.{getD}

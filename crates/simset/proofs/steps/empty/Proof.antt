@@ -1,5 +1,5 @@
-use Rattle.simset.specs.Promise.{head-in, failed, passed, told-not, told}
-use Rattle.simset.specs.Calls.{emptyTold}
+use Rattle.sets.specs.Promise.{head-in, failed, passed, told-not, told}
+use Rattle.sets.specs.Calls.{emptyTold}
 use borrow.Author.Needs.{needs}
 use native.Mathlib.Omega.{arith}
 use Rattle.simset.proofs.steps.empty.Statement.{statement}

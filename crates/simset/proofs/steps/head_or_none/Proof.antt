@@ -1,4 +1,4 @@
-use Rattle.simset.specs.Promise.{head-or}
+use Rattle.sets.specs.Promise.{head-or}
 use Rattle.simset.proofs.steps.head_or_none.Statement.{statement}
 use Rattle.simset.proofs.steps.head_or_none.Tie as tie
 

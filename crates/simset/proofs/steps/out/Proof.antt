@@ -1,5 +1,5 @@
-use Rattle.simset.specs.Promise.{link-in, moved-not, moved, failed, passed}
-use Rattle.simset.specs.Calls.{outStep}
+use Rattle.sets.specs.Promise.{link-in, moved-not, moved, failed, passed}
+use Rattle.sets.specs.Calls.{outStep}
 use borrow.Author.Needs.{needs}
 use native.Mathlib.Omega.{arith}
 use Rattle.simset.proofs.steps.out.Statement.{statement}

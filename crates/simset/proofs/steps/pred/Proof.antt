@@ -1,5 +1,5 @@
-use Rattle.simset.specs.Promise.{linkage-in, failed, passed, told-not, told}
-use Rattle.simset.specs.Calls.{predTold}
+use Rattle.sets.specs.Promise.{linkage-in, failed, passed, told-not, told}
+use Rattle.sets.specs.Calls.{predTold}
 use borrow.Author.Needs.{needs}
 use native.Mathlib.Omega.{arith}
 use Rattle.simset.proofs.steps.pred.Statement.{statement}

@@ -1,6 +1,6 @@
 use mathlib.Core.Path.{sym, _∙_}
 use Rattle.model.specs.Ready.{judged-ready}
-use Rattle.simulation.specs.Promise.{ready-judged}
+use Rattle.sequencing.specs.Promise.{ready-judged}
 use Rattle.model.specs.Answers.{asked-turned, asked-fine}
 use borrow.Author.Needs.{needs}
 use Rattle.simula.proofs.sequencing_queries.idle.Statement.{statement}

@@ -1,4 +1,4 @@
-use Rattle.simulation.specs.Promise.{first-at}
+use Rattle.sequencing.specs.Promise.{first-at}
 use Rattle.simulation.proofs.Chained.{hold-5, hold-0}
 use borrow.Author.Needs.{needs}
 use native.Mathlib.Omega.{arith}

@@ -1,5 +1,5 @@
-use Rattle.simulation.specs.ReadPromise.{current-told}
-use Rattle.simulation.specs.StepPromise.{first-low}
+use Rattle.sequencing.specs.ReadPromise.{current-told}
+use Rattle.sequencing.specs.StepPromise.{first-low}
 use borrow.Author.Needs.{needs}
 use native.Mathlib.Omega.{arith}
 use Rattle.simulation.proofs.reading.current.Statement.{statement}

@@ -1,7 +1,7 @@
-use Rattle.simulation.specs.ReadPromise.{is-in, evtime-idle, evtime-some}
-use Rattle.simset.specs.Promise.{told-not, failed, passed}
+use Rattle.sequencing.specs.ReadPromise.{is-in, evtime-idle, evtime-some}
+use Rattle.sets.specs.Promise.{told-not, failed, passed}
 use mathlib.Core.Path.{_∙_}
-use Rattle.simulation.specs.Calls.{evtimeTold}
+use Rattle.sequencing.specs.Calls.{evtimeTold}
 use borrow.Author.Needs.{needs}
 use native.Mathlib.Omega.{arith}
 use Rattle.simulation.proofs.reading.evtime.Statement.{statement}

@@ -1,6 +1,6 @@
-use Rattle.simulation.specs.ReadPromise.{is-in}
-use Rattle.simset.specs.Promise.{told-not, told, failed, passed}
-use Rattle.simulation.specs.Calls.{idleTold}
+use Rattle.sequencing.specs.ReadPromise.{is-in}
+use Rattle.sets.specs.Promise.{told-not, told, failed, passed}
+use Rattle.sequencing.specs.Calls.{idleTold}
 use borrow.Author.Needs.{needs}
 use native.Mathlib.Omega.{arith}
 use Rattle.simulation.proofs.reading.idle.Statement.{statement}

@@ -1,7 +1,7 @@
-use Rattle.simulation.specs.ReadPromise.{is-in, nextev-idle, nextev-last, nextev-next}
-use Rattle.simset.specs.Promise.{told-not, failed, passed}
+use Rattle.sequencing.specs.ReadPromise.{is-in, nextev-idle, nextev-last, nextev-next}
+use Rattle.sets.specs.Promise.{told-not, failed, passed}
 use mathlib.Core.Path.{_∙_}
-use Rattle.simulation.specs.Calls.{nextevTold}
+use Rattle.sequencing.specs.Calls.{nextevTold}
 use borrow.Author.Needs.{needs}
 use native.Mathlib.Omega.{arith}
 use Rattle.simulation.proofs.reading.nextev.Statement.{statement}

@@ -1,5 +1,5 @@
-use Rattle.simset.specs.Promise.{told-not, told, failed, passed}
-use Rattle.simulation.specs.Calls.{terminatedTold}
+use Rattle.sets.specs.Promise.{told-not, told, failed, passed}
+use Rattle.sequencing.specs.Calls.{terminatedTold}
 use borrow.Author.Needs.{needs}
 use Rattle.simulation.proofs.reading.terminated.Statement.{statement}
 use Rattle.simulation.proofs.reading.terminated.Tie as tie

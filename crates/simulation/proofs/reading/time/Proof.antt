@@ -1,4 +1,4 @@
-use Rattle.simulation.specs.ReadPromise.{time-told}
+use Rattle.sequencing.specs.ReadPromise.{time-told}
 use borrow.Author.Needs.{needs}
 use Rattle.simulation.proofs.reading.time.Statement.{statement}
 use Rattle.simulation.proofs.reading.time.Tie as tie

@@ -1,4 +1,4 @@
-use Rattle.simulation.specs.StepPromise.{finish-main, finish-other}
+use Rattle.sequencing.specs.StepPromise.{finish-main, finish-other}
 use borrow.Author.Needs.{needs}
 use Rattle.simulation.proofs.steps.finish.Statement.{statement}
 use Rattle.simulation.proofs.steps.finish.Tie as tie

@@ -1,5 +1,5 @@
-use Rattle.simulation.specs.Sign.{above-passed}
-use Rattle.simulation.specs.Calls.{holdStep}
+use Rattle.sequencing.specs.Sign.{above-passed}
+use Rattle.sequencing.specs.Calls.{holdStep}
 use borrow.Author.Needs.{needs}
 use Rattle.simulation.proofs.steps.hold.Statement.{statement}
 use Rattle.simulation.proofs.steps.hold.Tie as tie

@@ -1,0 +1,153 @@
+-- What the queries of SIMULATION tell, for every well-formed model: what the list of notices and the terminated processes say.
+use Prim.Native.Nat.{ℕ, _+_, _-_, _<_}
+use mathlib.Core.Path.{_≡_, refl, sym, ap, _∙_, subst}
+use mathlib.Core.Logic.{_≢_, inl, inr}
+use mathlib.Core.Bool.{Bool, true, false, not}
+use mathlib.Core.List.{List, [], _∷_}
+use native.Mathlib.Omega.{arith}
+use lib.Dec.{eqb, leb, ltb}
+use lib.ListN.{getD}
+use lib.Seq.{getD-take}
+use borrow.Author.Tests.{eq-eqb, ne-eqb, leb-true, ltb-true}
+use Rattle.ring.specs.Lists.{if_then_else_, In, decide, test}
+use Rattle.ring.specs.Tabulate.{has, bit}
+use Rattle.ring.specs.Chain.{Chain}
+use Rattle.ring.specs.Stores.{sucs, pres}
+use Rattle.counts.specs.declared.Counts.{Counts}
+use Rattle.counts.specs.declared.Refusal.the-variants.{Idle}
+use Rattle.counts.specs.Counts.{isProcess, linkageAt, both}
+use Rattle.model.specs.declared.answer.Answer.{Answer}
+use Rattle.model.specs.declared.answer.Answer.the-variants.{Linkage, Number, Truth, Refused}
+use Rattle.model.specs.Notices.{Notice, whos, places, dueOf}
+use Rattle.model.specs.Tables.{Tables, Lists, Sized, Spells}
+use Rattle.model.specs.Answers.{asked}
+use Rattle.sets.specs.Calls.{telling}
+use Rattle.sets.specs.Meaning.{asked-is}
+use Rattle.sequencing.specs.NoticeOps.{hasNotice, first}
+use Rattle.sequencing.specs.Plain.{current, time}
+use Rattle.sequencing.specs.Procedures.{Sqs, idleAt}
+use Rattle.sequencing.specs.Calls.{currentTold, timeTold, idleTold, terminatedTold, evtimeTold, nextevTold}
+use Rattle.model.specs.Reading.{who-place}
+use Rattle.sequencing.specs.Places.{half, SpellsTime, Process, chain, off-head, is-process, times-at, member}
+use Rattle.sequencing.specs.Agree.{sqsOf, its-time, st, first-is, process-first, time-is}
+use Rattle.sequencing.specs.AgreeEnds.{Party, has-in, idle-has}
+use Rattle.sequencing.specs.AgreeTimed.{marks-at}
+use Rattle.sequencing.specs.Meaning.{split}
+
+-- the process of the notice after x's, none where x's is the last
+abbrev pub nextOf : ℕ → List Notice → ℕ
+nextOf x [] = 0
+nextOf x (k ∷ []) = 0
+nextOf x (k ∷ j ∷ js) = if eqb (k .who) x then j .who else nextOf x (j ∷ js)
+
+-- what evtime tells
+abbrev pub evtimeOf : ℕ → List Notice → Answer
+evtimeOf x ns = if hasNotice x ns then Number (dueOf x ns) else Refused Idle
+
+-- what nextev tells: none for an idle process
+abbrev pub nextevOf : ℕ → List Notice → Answer
+nextevOf x ns = if hasNotice x ns then Linkage (nextOf x ns) else Linkage 0
+
+-- along the chain of the axis, whose end e is the head
+next-chain : (S P : ℕ → ℕ) (c : Counts) (a : ℕ) (ns : List Notice) (e x : ℕ) → Chain S P a (places c ns) e → ((y : ℕ) → In y (places c ns) → y ≢ e)
+    → ((y : ℕ) → In y (whos ns) → c .heads < y) → In x (whos ns)
+    → (if eqb (S (x - c .heads)) e then Linkage 0 else Linkage (linkageAt c (S (x - c .heads)))) ≡ Linkage (nextOf x ns)
+next-chain S P c a [] e x ch f h i = absurd i
+next-chain S P c a (k ∷ []) e x ch f h (inl q) = rw (ap (λ (j : ℕ). S (j - c .heads)) q ∙ ch .1 .next, eq-eqb e e refl)
+next-chain S P c a (k ∷ []) e x ch f h (inr i) = absurd i
+next-chain S P c a (k ∷ j ∷ js) e x ch f h i =
+    decide (k .who) x
+    (λ q.
+    let back : c .heads + (j .who - c .heads) ≡ j .who = omega (arith, h (j .who) (inr (inl refl))) in
+    rw (ap (λ (z : ℕ). S (z - c .heads)) (sym q) ∙ ch .1 .0 .next, ne-eqb (j .who - c .heads) e (f (j .who - c .heads) (inr (inl refl))), eq-eqb (k .who) x q)
+    (ap Linkage back))
+    (λ d. rw (ne-eqb (k .who) x d) (next-chain S P c (k .who - c .heads) (j ∷ js) e x (ch .1) (λ y m. f y (inr m)) (λ y m. h y (inr m)) (later i d)))
+  where
+    later : In x (whos (k ∷ j ∷ js)) → k .who ≢ x → In x (whos (j ∷ js))
+    later (inl q) d = absurd (d (sym q))
+    later (inr m) d = m
+
+bit-is : (b : Bool) → eqb (bit b) 1 ≡ b
+bit-is true = refl
+bit-is false = refl
+
+told-is : (b : Bool) (a r : Answer) → b ≡ true → a ≡ r → telling b a ≡ r
+told-is b a r e f = rw e f
+
+process-of : (c : Counts) (x : ℕ) → isProcess c x ≡ true → Process c x
+process-of c x e =
+    let p = both (ltb (c .heads) x) (leb x (c .heads + c .processes)) e in
+    record { over = ltb-true (c .heads) x (p .0); upto = leb-true x (c .heads + c .processes) (p .1) }
+
+module _ (c : Counts) (l : Lists) (t : Tables) (w : Sized c t) (s : Spells c l t) where
+  n : Notice
+  n = split (l .notices) (s .some) .0
+
+  ns : List Notice
+  ns = split (l .notices) (s .some) .1
+
+  e : l .notices ≡ n ∷ ns
+  unfolding n ns
+  e = split (l .notices) (s .some) .2
+
+  abbrev a : Sqs
+  a = sqsOf t
+
+  spt : SpellsTime c (l .notices) (sqsOf t)
+  spt = its-time c l t s
+
+  pub current-means : asked c (λ k. currentTold c (sqsOf k)) t ≡ Linkage (current l)
+  unfolding currentTold
+  current-means =
+      let f = first-is c n ns a (st c l t s n ns e) in
+      let p = process-first c n ns a (st c l t s n ns e) in
+      let h : current l ≡ n .who = ap (λ (k : List Notice). first k .who) e in
+      asked-is c l t w s (λ k. currentTold c (sqsOf k)) ∙ ap Linkage (omega (arith, f, p, h))
+
+  pub time-means : asked c (λ k. timeTold c (sqsOf k)) t ≡ Number (time l)
+  unfolding timeTold
+  time-means =
+      asked-is c l t w s (λ k. timeTold c (sqsOf k))
+      ∙ ap Number (time-is c n ns a (st c l t s n ns e) ∙ sym (ap (λ (k : List Notice). first k .due) e))
+
+  module _ (x : ℕ) (g : isProcess c x ≡ true) where
+    p : Process c x
+    p = process-of c x g
+
+    idle-is : idleAt a (x - c .heads) ≡ not (hasNotice x (l .notices))
+    idle-is = idle-has c (l .notices) a spt x (Party.proc p)
+
+    pub idle-means : asked c (λ k. idleTold c x (sqsOf k)) t ≡ Truth (not (hasNotice x (l .notices)))
+    unfolding idleTold
+    idle-means = asked-is c l t w s (λ k. idleTold c x (sqsOf k)) ∙ told-is (isProcess c x) _ _ g (ap Truth idle-is)
+
+    pub terminated-means : asked c (λ k. terminatedTold c x (k .marks)) t ≡ Truth (has x (l .terminated))
+    unfolding terminatedTold
+    terminated-means =
+        asked-is c l t w s (λ k. terminatedTold c x (k .marks))
+        ∙ told-is (isProcess c x) _ _ g (ap Truth (ap (λ (j : ℕ). eqb j 1) (marks-at c l t s n ns e x p) ∙ bit-is (has x (l .terminated))))
+
+    pub evtime-means : asked c (λ k. evtimeTold c x (sqsOf k)) t ≡ evtimeOf x (l .notices)
+    unfolding evtimeTold
+    evtime-means =
+        asked-is c l t w s (λ k. evtimeTold c x (sqsOf k))
+        ∙ told-is (isProcess c x) _ _ g
+        (test (hasNotice x (l .notices))
+        (λ h. rw (idle-is, h) (ap Number (times-at c (l .notices) a spt x p)))
+        (λ h. rw (idle-is, h)))
+
+    pub nextev-means : asked c (λ k. nextevTold c x (sqsOf k)) t ≡ nextevOf x (l .notices)
+    unfolding nextevTold
+    nextev-means =
+        asked-is c l t w s (λ k. nextevTold c x (sqsOf k))
+        ∙ told-is (isProcess c x) _ _ g
+        (test (hasNotice x (l .notices))
+        (λ h.
+        let i : In x (whos (l .notices)) = has-in x (l .notices) h in
+        let at : sucs (half c) (t .axis) (x - c .heads) ≡ getD (t .axis) (x - c .heads) 0 =
+        getD-take (half c) (t .axis) (x - c .heads) 0 (member c (l .notices) a spt (x - c .heads) (who-place c (l .notices) x i) .within) in
+        rw (idle-is, h)
+        (subst (λ (v : ℕ). (if eqb v (half c - 1) then Linkage 0 else Linkage (linkageAt c v)) ≡ Linkage (nextOf x (l .notices))) at
+        (next-chain (sucs (half c) (t .axis)) (pres (half c) (t .axis)) c (half c - 1) (l .notices) (half c - 1) x (chain c (l .notices) a spt)
+        (off-head c (l .notices) a spt) (λ y m. is-process c (l .notices) a spt y m .over) i)))
+        (λ h. rw (idle-is, h)))

@@ -1,0 +1,183 @@
+-- Reactivate in the papers' order: the new notice is placed while X's earlier one still stands, and then the earlier one is deleted.
+-- It leaves the same list as dropping the earlier one first, as `timed` and the tables do.
+use Prim.Native.Nat.{ℕ, suc, _≤_}
+use mathlib.Core.Path.{_≡_, refl, sym, ap, _∙_, subst}
+use mathlib.Core.Logic.{_≢_, inl, inr}
+use mathlib.Core.Bool.{Bool, true, false, _||_}
+use mathlib.Core.List.{List, [], _∷_}
+use native.Mathlib.Omega.{arith}
+use lib.Dec.{eqb}
+use lib.IntN.{ℤ}
+use borrow.Author.Tests.{eq-eqb, ne-eqb, eqb-false, le-leb, lt-leb, lt-ltb, le-ltb}
+use Rattle.ring.specs.Lists.{if_then_else_, In, decide, below, test}
+use Rattle.counts.specs.declared.Counts.{Counts}
+use Rattle.model.specs.Notices.{Notice, whos, From, InOrder}
+use Rattle.model.specs.Tables.{Tables, Lists, Sized, Spells}
+use Rattle.model.specs.Formed.{notice-process}
+use Rattle.model.specs.Answers.{called}
+use Rattle.sequencing.specs.NoticeOps.{behindAll, frontAll, before, after, dropped, hasNotice}
+use Rattle.sequencing.specs.NoticeLaws.{from-less, drop-from, drop-in}
+use Rattle.sequencing.specs.BesideLaws.{before-none, after-none}
+use Rattle.sequencing.specs.PlacedLaws.{not-none, others-y}
+use Rattle.sequencing.specs.AgreeEnds.{has-none}
+use Rattle.sequencing.specs.AgreeTimed.{front-first}
+use Rattle.sequencing.specs.StepPromise.{clause-in}
+use Rattle.sequencing.specs.Calls.{timedStep, onSqs}
+use Rattle.sequencing.specs.Meaning.{Follows, timed-means}
+use Rattle.sequencing.specs.Plain.{Result, done, need, upTo, leaving, dueFor, placed, noEffect, timedNeed, timed}
+
+-- until the earlier notice is gone the new one goes by 0, the number of no process; now it gets its name
+abbrev pub named : ℕ → List Notice → List Notice
+named x [] = []
+named x (k ∷ ks) = (if eqb (k .who) 0 then record { who = x; due = k .due } else k) ∷ named x ks
+
+-- "X's new notice has time u and stands .. Reactivate then deletes X's earlier notice"
+abbrev pub replaced : ℕ → ℕ → ℕ → ℕ → List Notice → List Notice
+replaced k x y u ns = named x (dropped x (placed k y (record { who = 0; due = u }) ns))
+
+-- activate and reactivate in that order
+unfoldable pub timedInOrder : Counts → Bool → ℕ → ℕ → ℕ → ℤ → Lists → Result Lists
+timedInOrder c again k x y t l =
+    let u = dueFor k y t l in
+    need (timedNeed c k x y)
+    (if noEffect again k x y l then done l else upTo u (leaving l (replaced k x y u (l .notices))))
+
+-- ---- each way of placing
+
+module _ (x u : ℕ) (some : x ≢ 0) where
+  abbrev new : Notice
+  new = record { who = 0; due = u }
+
+  abbrev its : Notice
+  its = record { who = x; due = u }
+
+  -- no notice goes by 0
+  abbrev Named : List Notice → Type 0
+  Named ns = In 0 (whos ns) → ⊥
+
+  named-none : (ns : List Notice) → Named ns → named x ns ≡ ns
+  named-none [] f = refl
+  named-none (k ∷ ks) f =
+      rw (ne-eqb (k .who) 0 (λ e. f (inl (sym e)))) (ap (λ (l : List Notice). k ∷ l) (named-none ks (λ i. f (inr i))))
+
+  named-dropped : (ns : List Notice) → Named ns → named x (dropped x ns) ≡ dropped x ns
+  named-dropped ns f = named-none (dropped x ns) (λ i. f (drop-in x ns 0 i))
+
+  zero-other : eqb 0 x ≡ false
+  zero-other = ne-eqb 0 x (λ e. some (sym e))
+
+  -- the new one first, then any notices
+  here : (ns : List Notice) → Named ns → named x (dropped x (new ∷ ns)) ≡ its ∷ dropped x ns
+  here ns f = rw zero-other (ap (λ (l : List Notice). its ∷ l) (named-dropped ns f))
+
+  -- another notice first: it is X's earlier one and goes, or it stays
+  there : (k : Notice) (ns ms : List Notice) → k .who ≢ 0 → named x (dropped x ns) ≡ ms
+      → (k .who ≡ x → named x (dropped x (k ∷ ns)) ≡ ms) × (k .who ≢ x → named x (dropped x (k ∷ ns)) ≡ k ∷ ms)
+  there k ns ms z e = (
+    λ q. rw (eq-eqb (k .who) x q) e,
+    λ d. rw (ne-eqb (k .who) x d, ne-eqb (k .who) 0 z) (ap (λ (l : List Notice). k ∷ l) e),
+  )
+
+  behind-first : (ns : List Notice) → From (suc u) ns → behindAll its ns ≡ its ∷ ns
+  behind-first [] f = refl
+  behind-first (k ∷ ks) f = rw (lt-leb (k .due) u (f .0))
+
+  replaced-behind : (ns : List Notice) → InOrder ns → Named ns → named x (dropped x (behindAll new ns)) ≡ behindAll its (dropped x ns)
+  replaced-behind [] o f = here [] f
+  replaced-behind (k ∷ ks) o f =
+      below u (k .due)
+      (λ l. rw (lt-leb (k .due) u l)
+      (here (k ∷ ks) f ∙ sym (behind-first (dropped x (k ∷ ks)) (drop-from x (suc u) (k ∷ ks) (l, from-less (suc u) (k .due) ks l (o .0))))))
+      (λ l.
+      let r = there k (behindAll new ks) (behindAll its (dropped x ks)) (λ e. f (inl (sym e))) (replaced-behind ks (o .1) (λ i. f (inr i))) in
+      rw (le-leb (k .due) u l) (decide (k .who) x
+      (λ e. r .0 e ∙ sym (rw (eq-eqb (k .who) x e)))
+      (λ d. r .1 d ∙ sym (rw (ne-eqb (k .who) x d, le-leb (k .due) u l)))))
+
+  replaced-front : (ns : List Notice) → InOrder ns → Named ns → named x (dropped x (frontAll new ns)) ≡ frontAll its (dropped x ns)
+  replaced-front [] o f = here [] f
+  replaced-front (k ∷ ks) o f =
+      below (k .due) u
+      (λ l.
+      let r = there k (frontAll new ks) (frontAll its (dropped x ks)) (λ e. f (inl (sym e))) (replaced-front ks (o .1) (λ i. f (inr i))) in
+      rw (lt-ltb (k .due) u l) (decide (k .who) x
+      (λ e. r .0 e ∙ sym (rw (eq-eqb (k .who) x e)))
+      (λ d. r .1 d ∙ sym (rw (ne-eqb (k .who) x d, lt-ltb (k .due) u l)))))
+      (λ l. rw (le-ltb (k .due) u l)
+      (here (k ∷ ks) f ∙ sym (front-first its u (dropped x (k ∷ ks)) (omega arith) (drop-from x u (k ∷ ks) (l, from-less u (k .due) ks l (o .0))))))
+
+  module _ (y : ℕ) (other : y ≢ x) where
+    replaced-before : (ns : List Notice) → Named ns → named x (dropped x (before y new ns)) ≡ before y its (dropped x ns)
+    replaced-before [] f = refl
+    replaced-before (k ∷ ks) f =
+        decide (k .who) y
+        (λ e.
+        let d : k .who ≢ x = λ q. other (sym e ∙ q) in
+        rw (eq-eqb (k .who) y e) (here (k ∷ ks) f ∙ sym (rw (ne-eqb (k .who) x d, eq-eqb (k .who) y e))))
+        (λ n.
+        let r = there k (before y new ks) (before y its (dropped x ks)) (λ e. f (inl (sym e))) (replaced-before ks (λ i. f (inr i))) in
+        rw (ne-eqb (k .who) y n) (decide (k .who) x
+        (λ e. r .0 e ∙ sym (rw (eq-eqb (k .who) x e)))
+        (λ d. r .1 d ∙ sym (rw (ne-eqb (k .who) x d, ne-eqb (k .who) y n)))))
+
+    replaced-after : (ns : List Notice) → Named ns → named x (dropped x (after y new ns)) ≡ after y its (dropped x ns)
+    replaced-after [] f = refl
+    replaced-after (k ∷ ks) f =
+        decide (k .who) y
+        (λ e.
+        let d : k .who ≢ x = λ q. other (sym e ∙ q) in
+        rw (eq-eqb (k .who) y e)
+        (there k (new ∷ ks) (its ∷ dropped x ks) (λ q. f (inl (sym q))) (here ks (λ i. f (inr i))) .1 d
+        ∙ sym (rw (ne-eqb (k .who) x d, eq-eqb (k .who) y e))))
+        (λ n.
+        let r = there k (after y new ks) (after y its (dropped x ks)) (λ e. f (inl (sym e))) (replaced-after ks (λ i. f (inr i))) in
+        rw (ne-eqb (k .who) y n) (decide (k .who) x
+        (λ e. r .0 e ∙ sym (rw (eq-eqb (k .who) x e)))
+        (λ d. r .1 d ∙ sym (rw (ne-eqb (k .who) x d, ne-eqb (k .who) y n)))))
+
+-- ---- the law
+
+module _ (k x y u : ℕ) (some : x ≢ 0) (ns : List Notice) (o : InOrder ns) (f : In 0 (whos ns) → ⊥) where
+  -- beside a Y without a notice nothing is put in
+  left-out : (5 ≤ k) → k ≤ 6 → hasNotice y ns ≡ false → replaced k x y u ns ≡ placed k y (record { who = x; due = u }) (dropped x ns)
+  unfolding placed
+  left-out l m h =
+      let none : In y (whos ns) → ⊥ = has-none y ns h in
+      let gone : In y (whos (dropped x ns)) → ⊥ = λ i. none (drop-in x ns y i) in
+      test (eqb k 5)
+      (λ e. rw (e, before-none y (record { who = 0; due = u }) ns none, before-none y (record { who = x; due = u }) (dropped x ns) gone) (named-dropped x u some ns f))
+      (λ e. rw (e, eq-eqb k 6 (omega (arith, eqb-false k 5 e)), after-none y (record { who = 0; due = u }) ns none, after-none y (record { who = x; due = u }) (dropped x ns) gone)
+      (named-dropped x u some ns f))
+
+  pub replaced-is : k ≤ 6 → (5 ≤ k → hasNotice y ns ≡ true → y ≢ x) → replaced k x y u ns ≡ placed k y (record { who = x; due = u }) (dropped x ns)
+  unfolding placed
+  replaced-is m g =
+      below 4 k
+      (λ l. test (hasNotice y ns)
+      (λ h. test (eqb k 5)
+      (λ e. rw e (replaced-before x u some y (g l h) ns f))
+      (λ e. rw (e, eq-eqb k 6 (omega (arith, eqb-false k 5 e))) (replaced-after x u some y (g l h) ns f)))
+      (λ h. left-out l m h))
+      (λ l. test (eqb k 1 || eqb k 2)
+      (λ e. rw (ne-eqb k 5 (λ q. omega arith), ne-eqb k 6 (λ q. omega arith), e) (replaced-behind x u some ns o f))
+      (λ e. rw (ne-eqb k 5 (λ q. omega arith), ne-eqb k 6 (λ q. omega arith), e) (replaced-front x u some ns o f)))
+
+-- activate and reactivate leave what the papers' order leaves, with the same refusals
+pub timed-in-order : (c : Counts) (again : Bool) (k x y : ℕ) (z : ℤ) (l : Lists) → InOrder (l .notices) → (In 0 (whos (l .notices)) → ⊥)
+    → timed c again k x y z l ≡ timedInOrder c again k x y z l
+unfolding timed timedInOrder
+timed-in-order c again k x y z l o f =
+    test (timedNeed c k x y)
+    (λ g. rw g (test (noEffect again k x y l)
+    (λ q. rw q refl)
+    (λ q. rw q (ap (λ (ns : List Notice). upTo (dueFor k y z l) (leaving l ns))
+    (sym (replaced-is k x y (dueFor k y z l) (not-none again k x y l q) (l .notices) o f (clause-in c k x y g) (λ m h. others-y again k x y l m q h)))))))
+    (λ g. rw g refl)
+
+-- so in every well-formed model the public calls follow the papers' order
+pub in-order-means : (c : Counts) (l : Lists) (t : Tables) → Sized c t → Spells c l t → (again : Bool) (k x y : ℕ) (z : ℤ)
+    → Follows c t (timedInOrder c again k x y z l) (called c (onSqs (λ m a. timedStep c again k x y z m a)) t)
+in-order-means c l t w s again k x y z =
+    subst (λ (r : Result Lists). Follows c t r (called c (onSqs (λ m a. timedStep c again k x y z m a)) t))
+    (timed-in-order c again k x y z l (s .in-order) (λ i. omega (arith, notice-process c l t s 0 i)))
+    (timed-means c l t w s again k x y z)

@@ -1,0 +1,42 @@
+use borrow.Author.Needs.{needs}
+use Rattle.words.specs.Words.{u64At}
+use Rattle.words.proofs.u64_at.Statement.{statement}
+use Rattle.words.proofs.u64_at.Tie as tie
+
+u32-at-requires : tie.Need-u32-at-requires
+u32-at-requires c κs = search needs
+
+add-u32-at : tie.Need-add-u32-at
+add-u32-at c = search needs
+
+u32-at-requires-2 : tie.Need-u32-at-requires-2
+u32-at-requires-2 c κs = search needs
+
+wider-requires : tie.Need-wider-requires
+wider-requires c κs = search needs
+
+wider-requires-2 : tie.Need-wider-requires-2
+wider-requires-2 c κs = search needs
+
+mul-result : tie.Need-mul-result
+mul-result c = search needs
+
+add-result : tie.Need-add-result
+add-result c = search needs
+
+returns : tie.Need-returns
+unfolding u64At
+returns c = cc
+
+pub u64-at-spec : {M : Type 1} → statement M
+u64-at-spec =
+    tie.close
+    (tie.spec
+    u32-at-requires
+    add-u32-at
+    u32-at-requires-2
+    wider-requires
+    wider-requires-2
+    mul-result
+    add-result
+    returns)

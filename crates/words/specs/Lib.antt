@@ -1,0 +1,3 @@
+-- Words in a list of bytes.
+pub mod Words
+pub mod Signed
