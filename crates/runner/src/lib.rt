@@ -2,9 +2,6 @@
 pub mod answer;
 pub mod fresh;
 pub mod judge;
-pub mod perform;
-pub mod reading;
-pub mod steps;
 pub mod turns;
 
 use crate::fresh::fill;

@@ -1,14 +1,14 @@
 // Turn after turn on judged tables, until main has finished, the trace is full or a step is refused. The last process's position is
 // kept beside its table, so that a process which stays current needs no read.
-use crate::reading::ends_now;
-use crate::reading::is_end;
-use crate::reading::place_now;
-use crate::reading::position;
-use crate::steps::step;
 use counts::Counts;
 use machine::End;
 use runs::Ran;
 use runs::Turned;
+use steps::reading::ends_now;
+use steps::reading::is_end;
+use steps::reading::place_now;
+use steps::reading::position;
+use steps::step;
 ghost use mathlib.Core.Path.{_≡_};
 ghost use Prim.Native.Nat.{_/_, _≤_};
 ghost use lib.ListN.{length};
