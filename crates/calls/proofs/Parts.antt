@@ -1,21 +1,12 @@
 -- The first parts of buffers of zeros, as the tables of a request that is served.
-use Prim.Native.Nat.{ℕ, zero, suc, _*_, _≤_}
-use mathlib.Core.Path.{_≡_, refl, _∙_, ap}
-use mathlib.Core.List.{List, _∷_}
+use Prim.Native.Nat.{ℕ, _*_, _≤_}
+use mathlib.Core.Path.{_≡_}
 use native.Mathlib.Omega.{arith}
-use native.Mathlib.Nat.{le-of-suc-le-suc, not-suc-le-zero}
-use lib.ListN.{length, take, replicate, length-replicate}
+use lib.ListN.{length, take, replicate}
 use lib.IntN.{ℤ, pos}
+use Rattle.runs.specs.Parts.{part-length}
 use Rattle.calls.specs.declared.head.Sizes.{Sizes}
 use Rattle.calls.specs.Contents.{ModelFits, RunFits, Served}
-
-take-replicate : {A : Type 0} (k n : ℕ) (v : A) → k ≤ n → take k (replicate n v) ≡ replicate k v
-take-replicate zero n v h = refl
-take-replicate (suc k) zero v h = absurd (not-suc-le-zero h)
-take-replicate (suc k) (suc n) v h = ap (λ (l : List _). v ∷ l) (take-replicate k n v (le-of-suc-le-suc h))
-
-pub part-length : {A : Type 0} (k n : ℕ) (v : A) → k ≤ n → length (take k (replicate n v)) ≡ k
-part-length k n v h = ap length (take-replicate k n v h) ∙ length-replicate k v
 
 -- a part of k entries, for a table of k
 in-part : {A : Type 0} (j k n : ℕ) (v : A) → k ≡ j → j ≤ n → j ≤ length (take k (replicate n v))

@@ -1,4 +1,5 @@
-use Rattle.calls.proofs.Signs.{less-one-fits, less-one-cast, less-one-below, same-cast}
+use native.Mathlib.Omega.{arith}
+use Rattle.accumulator.specs.Signed.{less-one-fits, less-one-cast, same-cast}
 use borrow.Author.Needs.{needs}
 use Rattle.calls.proofs.put.bits.Statement.{statement}
 use Rattle.calls.proofs.put.bits.Tie as tie
@@ -10,7 +11,7 @@ cast-result : tie.Need-cast-result
 cast-result c = less-one-cast (c .before .args .x) (c .before .fits .x) (c .if1 .taken)
 
 sub-result : tie.Need-sub-result
-sub-result c = less-one-below (c .before .args .x) (c .before .fits .x) (c .if1 .taken)
+sub-result c = omega (arith, less-one-cast (c .before .args .x) (c .before .fits .x) (c .if1 .taken) .1 .fits)
 
 returns : tie.Need-returns
 returns c = search needs
