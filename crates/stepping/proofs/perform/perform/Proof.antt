@@ -4,8 +4,8 @@ use Rattle.machine.specs.Calls.{out, follow, precede, into, clear}
 use Rattle.accumulator.specs.Signed.{word, kept}
 use lib.Dec.{eqb}
 use borrow.Author.Needs.{needs}
-use Rattle.steps.proofs.perform.perform.Statement.{statement}
-use Rattle.steps.proofs.perform.perform.Tie as tie
+use Rattle.stepping.proofs.perform.perform.Statement.{statement}
+use Rattle.stepping.proofs.perform.perform.Tie as tie
 
 wide-clause-requires : tie.Need-wide-clause-requires
 wide-clause-requires c κs = search needs

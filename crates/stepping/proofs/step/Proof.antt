@@ -4,8 +4,8 @@ use Rattle.runs.specs.StepIs.{step-off, step-on}
 use mathlib.Core.Path.{refl}
 use borrow.Author.Needs.{needs}
 use native.Mathlib.Omega.{arith}
-use Rattle.steps.proofs.step.Statement.{statement}
-use Rattle.steps.proofs.step.Tie as tie
+use Rattle.stepping.proofs.step.Statement.{statement}
+use Rattle.stepping.proofs.step.Tie as tie
 
 place-now-requires : tie.Need-place-now-requires
 place-now-requires c κs = its-judged _ _ _ (c .before .before .before .before .before .before .before .before .pre .0)

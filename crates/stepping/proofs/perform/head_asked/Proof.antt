@@ -1,7 +1,7 @@
 use Rattle.sets.specs.Promise.{failed, passed}
 use borrow.Author.Needs.{needs}
-use Rattle.steps.proofs.perform.head_asked.Statement.{statement}
-use Rattle.steps.proofs.perform.head_asked.Tie as tie
+use Rattle.stepping.proofs.perform.head_asked.Statement.{statement}
+use Rattle.stepping.proofs.perform.head_asked.Tie as tie
 
 is-head-requires : tie.Need-is-head-requires
 is-head-requires c κs = search needs

@@ -2,8 +2,8 @@ use mathlib.Core.Path.{sym, ap}
 use Rattle.model.specs.declared.answer.Answer.{Answer}
 use Rattle.runs.specs.Run.{turnedOf}
 use borrow.Author.Needs.{needs}
-use Rattle.steps.proofs.goes_on.Statement.{statement}
-use Rattle.steps.proofs.goes_on.Tie as tie
+use Rattle.stepping.proofs.goes_on.Statement.{statement}
+use Rattle.stepping.proofs.goes_on.Tie as tie
 
 enum-told : tie.Need-enum-told
 enum-told c = search needs

@@ -1,6 +1,6 @@
 use borrow.Author.Needs.{needs}
-use Rattle.steps.proofs.reading.place_now.Statement.{statement}
-use Rattle.steps.proofs.reading.place_now.Tie as tie
+use Rattle.stepping.proofs.reading.place_now.Statement.{statement}
+use Rattle.stepping.proofs.reading.place_now.Tie as tie
 
 wide-requires : tie.Need-wide-requires
 wide-requires c κs = search needs

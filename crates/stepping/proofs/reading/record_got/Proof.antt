@@ -1,7 +1,7 @@
 use Rattle.runs.specs.Reads.{got-end, got-record}
 use native.Mathlib.Omega.{arith}
-use Rattle.steps.proofs.reading.record_got.Statement.{statement}
-use Rattle.steps.proofs.reading.record_got.Tie as tie
+use Rattle.stepping.proofs.reading.record_got.Statement.{statement}
+use Rattle.stepping.proofs.reading.record_got.Tie as tie
 
 returns : tie.Need-returns
 returns c = got-end _ _ _ ((c .if1 .taken))

@@ -1,8 +1,8 @@
 use Rattle.runs.specs.Reads.{next-plain, next-empty, next-busy}
 use borrow.Author.Needs.{needs}
 use native.Mathlib.Omega.{arith}
-use Rattle.steps.proofs.reading.next_of.Statement.{statement}
-use Rattle.steps.proofs.reading.next_of.Tie as tie
+use Rattle.stepping.proofs.reading.next_of.Statement.{statement}
+use Rattle.stepping.proofs.reading.next_of.Tie as tie
 
 returns : tie.Need-returns
 returns c = next-plain ((c .before .before .before .args .q)) ((c .before .before .before .args .links .now)) ((c .before .before .before .args .x)) ((c .if1 .taken))

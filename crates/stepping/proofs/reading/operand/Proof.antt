@@ -1,7 +1,7 @@
 use Rattle.runs.specs.Reads.{operand-low, operand-current, operand-first}
 use borrow.Author.Needs.{needs}
-use Rattle.steps.proofs.reading.operand.Statement.{statement}
-use Rattle.steps.proofs.reading.operand.Tie as tie
+use Rattle.stepping.proofs.reading.operand.Statement.{statement}
+use Rattle.stepping.proofs.reading.operand.Tie as tie
 
 returns : tie.Need-returns
 returns c = operand-low _ _ _ _ ((c .if1 .taken))

@@ -1,7 +1,7 @@
 use Rattle.runs.specs.Reads.{x-fine, y-fine, place-fine, due-is}
 use Rattle.accumulator.specs.Signed.{word, kept}
-use Rattle.steps.proofs.reading.due.Statement.{statement}
-use Rattle.steps.proofs.reading.due.Tie as tie
+use Rattle.stepping.proofs.reading.due.Statement.{statement}
+use Rattle.stepping.proofs.reading.due.Tie as tie
 
 record-got-requires : tie.Need-record-got-requires
 record-got-requires c κs = (c .before .before .before .pre .1 .1 .inside)

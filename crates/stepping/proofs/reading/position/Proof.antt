@@ -2,8 +2,8 @@ use mathlib.Core.Path.{sym, ap, _∙_}
 use lib.ListN.{getD}
 use Prim.Native.Nat.{ℕ}
 use borrow.Author.Needs.{needs}
-use Rattle.steps.proofs.reading.position.Statement.{statement}
-use Rattle.steps.proofs.reading.position.Tie as tie
+use Rattle.stepping.proofs.reading.position.Statement.{statement}
+use Rattle.stepping.proofs.reading.position.Tie as tie
 
 returns : tie.Need-returns
 returns c = (c .before .before .pre .1) ∙ ap (λ (j : ℕ). getD (c .before .before .args .positions .now) j 0) (sym (c .if1 .taken))

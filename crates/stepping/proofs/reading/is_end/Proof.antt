@@ -1,6 +1,6 @@
 use borrow.Author.Tests.{eq-eqb, ne-eqb}
-use Rattle.steps.proofs.reading.is_end.Statement.{statement}
-use Rattle.steps.proofs.reading.is_end.Tie as tie
+use Rattle.stepping.proofs.reading.is_end.Statement.{statement}
+use Rattle.stepping.proofs.reading.is_end.Tie as tie
 
 returns : tie.Need-returns
 returns c = rw (ne-eqb _ _ (c .if1 .taken))

@@ -1,7 +1,7 @@
 use Rattle.runs.specs.Reads.{ends-other, ends-main}
 use borrow.Author.Needs.{needs}
-use Rattle.steps.proofs.reading.ends_now.Statement.{statement}
-use Rattle.steps.proofs.reading.ends_now.Tie as tie
+use Rattle.stepping.proofs.reading.ends_now.Statement.{statement}
+use Rattle.stepping.proofs.reading.ends_now.Tie as tie
 
 place-now-requires : tie.Need-place-now-requires
 place-now-requires c κs = search needs
