@@ -3,14 +3,13 @@ use crate::procedures;
 use counts::Counts;
 use counts::Refusal;
 use model::answer::Answer;
-use ring::count;
 use ring::unlink;
 use ring::wide;
 ghost use mathlib.Core.Path.{_≡_};
 ghost use Prim.Native.Nat.{_+_};
 ghost use Rattle.ring.specs.Table.{Sound};
 ghost use Rattle.counts.specs.Counts.{total, isHead, isLinkage};
-ghost use Rattle.sets.specs.Calls.{orNone, outStep, followStep, precedeStep, intoStep, clearStep, firstTold, lastTold, sucTold, predTold, emptyTold, cardinalTold};
+ghost use Rattle.sets.specs.Calls.{orNone, outStep, followStep, precedeStep, intoStep, clearStep};
 ghost use Rattle.sets.specs.Promise.{Moved};
 
 // A linkage, or none.
@@ -105,77 +104,4 @@ pub fn clear(c: Counts, links: &mut [u32], x: u32) -> Answer
     let n = c.total();
     procedures::clear(links, n + 1, wide(x));
     Answer::Done
-}
-
-pub fn first(c: Counts, links: &[u32], x: u32) -> Answer
-    requires { ⌜ Sound (total c + 1) (now links) ⌝ }
-    ensures { λ r. ⌜ r ≡ firstTold c x (now (links .entry)) ⌝ }
-{
-    let ok = c.is_head(x);
-    if !ok {
-        return Answer::Refused(Refusal::Operand);
-    }
-    let i = wide(x);
-    Answer::Linkage(procedures::link_or(c.heads, links[i]))
-}
-
-pub fn last(c: Counts, links: &[u32], x: u32) -> Answer
-    requires { ⌜ Sound (total c + 1) (now links) ⌝ }
-    ensures { λ r. ⌜ r ≡ lastTold c x (now (links .entry)) ⌝ }
-{
-    let ok = c.is_head(x);
-    if !ok {
-        return Answer::Refused(Refusal::Operand);
-    }
-    let i = c.total() + 1 + wide(x);
-    Answer::Linkage(procedures::link_or(c.heads, links[i]))
-}
-
-pub fn suc(c: Counts, links: &[u32], x: u32) -> Answer
-    requires { ⌜ Sound (total c + 1) (now links) ⌝ }
-    ensures { λ r. ⌜ r ≡ sucTold c x (now (links .entry)) ⌝ }
-{
-    let ok = c.is_linkage(x);
-    if !ok {
-        return Answer::Refused(Refusal::Operand);
-    }
-    let i = wide(x);
-    Answer::Linkage(procedures::link_or(c.heads, links[i]))
-}
-
-pub fn pred(c: Counts, links: &[u32], x: u32) -> Answer
-    requires { ⌜ Sound (total c + 1) (now links) ⌝ }
-    ensures { λ r. ⌜ r ≡ predTold c x (now (links .entry)) ⌝ }
-{
-    let ok = c.is_linkage(x);
-    if !ok {
-        return Answer::Refused(Refusal::Operand);
-    }
-    let i = c.total() + 1 + wide(x);
-    Answer::Linkage(procedures::link_or(c.heads, links[i]))
-}
-
-pub fn empty(c: Counts, links: &[u32], x: u32) -> Answer
-    requires { ⌜ Sound (total c + 1) (now links) ⌝ }
-    ensures { λ r. ⌜ r ≡ emptyTold c x (now (links .entry)) ⌝ }
-{
-    let ok = c.is_head(x);
-    if !ok {
-        return Answer::Refused(Refusal::Operand);
-    }
-    let i = wide(x);
-    Answer::Truth(links[i] == x)
-}
-
-pub fn cardinal(c: Counts, links: &[u32], x: u32) -> Answer
-    requires { ⌜ Sound (total c + 1) (now links) ⌝ }
-    ensures { λ r. ⌜ r ≡ cardinalTold c x (now (links .entry)) ⌝ }
-{
-    let ok = c.is_head(x);
-    if !ok {
-        return Answer::Refused(Refusal::Operand);
-    }
-    let n = c.total();
-    let k = count(links, n + 1, wide(x));
-    Answer::Number(k as u64)
 }

@@ -2,7 +2,7 @@
 use counts::Counts;
 use model::answer::Answer;
 use model::verdict::Verdict;
-use simulation::reading;
+use queries::on_axis;
 use tables::judge::judge_tables;
 ghost use mathlib.Core.Path.{_≡_};
 ghost use Rattle.model.specs.Answers.{asked};
@@ -15,7 +15,7 @@ pub fn current(c: Counts, links: &[u32], axis: &[u32], times: &[u64], marks: &[u
     let v = judge_tables(c, links, axis, times, marks);
     match v {
         Verdict::Refused(r) => Answer::Refused(r),
-        Verdict::Fine => reading::current(c, axis, times),
+        Verdict::Fine => on_axis::current(c, axis, times),
     }
 }
 
@@ -26,7 +26,7 @@ pub fn time(c: Counts, links: &[u32], axis: &[u32], times: &[u64], marks: &[u8])
     let v = judge_tables(c, links, axis, times, marks);
     match v {
         Verdict::Refused(r) => Answer::Refused(r),
-        Verdict::Fine => reading::time(c, axis, times),
+        Verdict::Fine => on_axis::time(c, axis, times),
     }
 }
 
@@ -37,7 +37,7 @@ pub fn idle(c: Counts, links: &[u32], axis: &[u32], times: &[u64], marks: &[u8],
     let v = judge_tables(c, links, axis, times, marks);
     match v {
         Verdict::Refused(r) => Answer::Refused(r),
-        Verdict::Fine => reading::idle(c, axis, times, x),
+        Verdict::Fine => on_axis::idle(c, axis, times, x),
     }
 }
 
@@ -55,7 +55,7 @@ pub fn terminated(
     let v = judge_tables(c, links, axis, times, marks);
     match v {
         Verdict::Refused(r) => Answer::Refused(r),
-        Verdict::Fine => reading::terminated(c, marks, x),
+        Verdict::Fine => on_axis::terminated(c, marks, x),
     }
 }
 
@@ -66,7 +66,7 @@ pub fn evtime(c: Counts, links: &[u32], axis: &[u32], times: &[u64], marks: &[u8
     let v = judge_tables(c, links, axis, times, marks);
     match v {
         Verdict::Refused(r) => Answer::Refused(r),
-        Verdict::Fine => reading::evtime(c, axis, times, x),
+        Verdict::Fine => on_axis::evtime(c, axis, times, x),
     }
 }
 
@@ -77,6 +77,6 @@ pub fn nextev(c: Counts, links: &[u32], axis: &[u32], times: &[u64], marks: &[u8
     let v = judge_tables(c, links, axis, times, marks);
     match v {
         Verdict::Refused(r) => Answer::Refused(r),
-        Verdict::Fine => reading::nextev(c, axis, times, x),
+        Verdict::Fine => on_axis::nextev(c, axis, times, x),
     }
 }

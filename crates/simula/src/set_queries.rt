@@ -2,7 +2,7 @@
 use counts::Counts;
 use model::answer::Answer;
 use model::verdict::Verdict;
-use simset::steps;
+use queries::on_links;
 use tables::judge::judge_tables;
 ghost use mathlib.Core.Path.{_≡_};
 ghost use Rattle.model.specs.Answers.{asked};
@@ -15,7 +15,7 @@ pub fn first(c: Counts, links: &[u32], axis: &[u32], times: &[u64], marks: &[u8]
     let v = judge_tables(c, links, axis, times, marks);
     match v {
         Verdict::Refused(r) => Answer::Refused(r),
-        Verdict::Fine => steps::first(c, links, x),
+        Verdict::Fine => on_links::first(c, links, x),
     }
 }
 
@@ -26,7 +26,7 @@ pub fn last(c: Counts, links: &[u32], axis: &[u32], times: &[u64], marks: &[u8],
     let v = judge_tables(c, links, axis, times, marks);
     match v {
         Verdict::Refused(r) => Answer::Refused(r),
-        Verdict::Fine => steps::last(c, links, x),
+        Verdict::Fine => on_links::last(c, links, x),
     }
 }
 
@@ -37,7 +37,7 @@ pub fn suc(c: Counts, links: &[u32], axis: &[u32], times: &[u64], marks: &[u8], 
     let v = judge_tables(c, links, axis, times, marks);
     match v {
         Verdict::Refused(r) => Answer::Refused(r),
-        Verdict::Fine => steps::suc(c, links, x),
+        Verdict::Fine => on_links::suc(c, links, x),
     }
 }
 
@@ -48,7 +48,7 @@ pub fn pred(c: Counts, links: &[u32], axis: &[u32], times: &[u64], marks: &[u8],
     let v = judge_tables(c, links, axis, times, marks);
     match v {
         Verdict::Refused(r) => Answer::Refused(r),
-        Verdict::Fine => steps::pred(c, links, x),
+        Verdict::Fine => on_links::pred(c, links, x),
     }
 }
 
@@ -59,7 +59,7 @@ pub fn empty(c: Counts, links: &[u32], axis: &[u32], times: &[u64], marks: &[u8]
     let v = judge_tables(c, links, axis, times, marks);
     match v {
         Verdict::Refused(r) => Answer::Refused(r),
-        Verdict::Fine => steps::empty(c, links, x),
+        Verdict::Fine => on_links::empty(c, links, x),
     }
 }
 
@@ -77,6 +77,6 @@ pub fn cardinal(
     let v = judge_tables(c, links, axis, times, marks);
     match v {
         Verdict::Refused(r) => Answer::Refused(r),
-        Verdict::Fine => steps::cardinal(c, links, x),
+        Verdict::Fine => on_links::cardinal(c, links, x),
     }
 }

@@ -12,7 +12,7 @@ ghost use Rattle.sequencing.specs.Procedures.{found, dropOn, putOn};
 ghost use Rattle.sequencing.specs.Promise.{sqs, Left, Place, Read, Stored, Lone, First, capped};
 
 // The time at a place, 0 past the table's end.
-pub(crate) fn due(times: &[u64], i: usize) -> u64
+pub fn due(times: &[u64], i: usize) -> u64
     ensures { λ r. ⌜ Read i (now (times .entry)) r ⌝ }
 {
     if i >= times.len() {
@@ -22,7 +22,7 @@ pub(crate) fn due(times: &[u64], i: usize) -> u64
 }
 
 // The mark at a place.
-pub(crate) fn mark_at(marks: &[u8], i: usize) -> u8
+pub fn mark_at(marks: &[u8], i: usize) -> u8
     ensures { λ r. ⌜ Read i (now (marks .entry)) r ⌝ }
 {
     if i >= marks.len() {
@@ -130,7 +130,7 @@ pub(crate) fn put(axis: &mut [u32], m: usize, times: &mut [u64], x: u32, q: u32,
 }
 
 // The place of the first notice.
-pub(crate) fn first(axis: &[u32], m: usize) -> u32
+pub fn first(axis: &[u32], m: usize) -> u32
     requires { ⌜ Sound m (now axis) ⌝ }
     ensures { λ r. ⌜ Place m (getD (now (axis .entry)) (m - 1) 0) r ⌝ }
 {

@@ -2,5 +2,4 @@
 pub mod activation;
 pub mod axis;
 pub mod procedures;
-pub mod reading;
 pub mod steps;
