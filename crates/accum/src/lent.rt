@@ -3,8 +3,6 @@ use crate::calls::accum_alone;
 use crate::calls::accum_at_time;
 use crate::judge::pick;
 use accumulator::Accumulator;
-use accumulator::Kept;
-use accumulator::Picked;
 use counts::Counts;
 use model::answer::Answer;
 ghost use mathlib.Core.Path.{_≡_};

@@ -1,5 +1,4 @@
 // The edge for a C host: one function, with a fresh run's tables in local arrays.
-use counts::Counts;
 use counts::Refusal;
 use ring::wide;
 use runner::answer::number;
@@ -14,7 +13,7 @@ ghost use lib.ListN.{length};
 ghost use Rattle.counts.specs.Refusals.{refusalNumber};
 ghost use Rattle.sheet.specs.Accepted.{checked};
 ghost use Rattle.sheet.specs.declared.header.Checked.the-variants.{Accepted};
-ghost use Rattle.host.specs.Host.{startedHere, Hosted, hosted};
+ghost use Rattle.host.specs.Host.{startedHere, hosted};
 
 // A fresh run over local tables, cut to the sheet's lengths.
 fn run_here(header: Header, sheet: &[u8], trace: &mut [u8]) -> Ran

@@ -15,7 +15,7 @@ use Rattle.sequencing.specs.Orders.{Before, Next}
 use Rattle.sequencing.specs.NoticeLaws.{Ins, ins-new, ins-in, ins-due, ins-own, drop-in, drop-gone, drop-due, drop-back}
 use Rattle.sequencing.specs.Plain.{placed}
 use Rattle.sequencing.specs.Ties.{PlacedTies, placed-ins, placed-ties}
-use Rattle.machine.specs.History.{How, behind, nothing, places, howOf, Placed, isPlaced, Others, Stepwise}
+use Rattle.machine.specs.History.{How, nothing, places, howOf, Placed, isPlaced, Others, Stepwise}
 
 -- ---- calls that place nothing
 

@@ -11,7 +11,7 @@ use lib.Seq.{getD-set-same, getD-set-other, set-out}
 use borrow.Author.Tests.{eqb-true, eqb-false}
 use Rattle.ring.specs.Lists.{if_then_else_, decide, below, test}
 use Rattle.counts.specs.declared.Counts.{Counts}
-use Rattle.counts.specs.Counts.{Allowed, main}
+use Rattle.counts.specs.Counts.{Allowed}
 use Rattle.model.specs.Tables.{Tables, Lists, Spells}
 use Rattle.model.specs.Formed.{notice-each}
 use Rattle.model.specs.Once.{spelled-sized}

@@ -1,3 +1,3 @@
-// The queries of SIMSET and SIMULATION on the tables of a judged model.
+// The queries of SIMSET and SIMULATION. Core functions: the caller knows that the tables were judged.
 pub mod on_axis;
 pub mod on_links;

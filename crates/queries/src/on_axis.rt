@@ -8,7 +8,7 @@ use simulation::axis::first;
 use simulation::axis::mark_at;
 use simulation::steps::current_link;
 ghost use mathlib.Core.Path.{_≡_};
-ghost use Prim.Native.Nat.{_+_, _≤_};
+ghost use Prim.Native.Nat.{_+_};
 ghost use Rattle.sequencing.specs.Calls.{currentTold, timeTold, idleTold, terminatedTold, evtimeTold, nextevTold};
 ghost use Rattle.sequencing.specs.Promise.{sqs, Judged};
 

@@ -37,12 +37,6 @@ module _ (n : Notice) where
   ins-dist (there {k = k} i) f d =
       (λ j. ⊎-elim (λ e. f (inl (sym e))) (λ g. d .0 g) (ins-in (k .who) i j), ins-dist i (λ j. f (inr j)) (d .1))
 
-  pub ins-order : {ns ns′ : List Notice} (a b : ℕ) → a ≢ n .who → b ≢ n .who → Ins n ns ns′ → Before a b (whos ns′) → Before a b (whos ns)
-  ins-order a b na nb here (inl e) = absurd (na (sym (e .0)))
-  ins-order a b na nb here (inr k) = k
-  ins-order a b na nb (there i) (inl e) = inl (e .0, ⊎-elim (λ q. absurd (nb q)) (λ j. j) (ins-in b i (e .1)))
-  ins-order a b na nb (there i) (inr k) = inr (ins-order a b na nb i k)
-
   pub ins-back : {ns ns′ : List Notice} (a b : ℕ) → Ins n ns ns′ → Before a b (whos ns) → Before a b (whos ns′)
   ins-back a b here k = inr k
   ins-back a b (there i) (inl e) = inl (e .0, ins-old b i (e .1))

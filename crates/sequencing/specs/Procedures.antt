@@ -81,12 +81,9 @@ dropOn m x a = record { axis = unlinked m x (a .axis); times = set (a .times) x 
 unfoldable pub putOn : ℕ → ℕ → ℕ → ℕ → Sqs → Sqs
 putOn m x q u a = record { axis = linkedBehind m x q (a .axis); times = set (a .times) x u }
 
--- RANK (false) goes back while a time is above u, RANK (true) while it is u too
+-- RANK (false) goes back while a time is above u
 abbrev pub ranked : ℕ → ℕ → ℕ → Sqs → Sqs
 ranked m x u a = putOn m x (found m (suc u) a) u a
-
-abbrev pub rankedBefore : ℕ → ℕ → ℕ → Sqs → Sqs
-rankedBefore m x u a = putOn m x (found m u a) u a
 
 -- ---- hold, passivate, cancel, finish; d is T where that is above 0, else 0
 

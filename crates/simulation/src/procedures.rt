@@ -11,7 +11,6 @@ use counts::Refusal;
 use counts::TIME_LIMIT;
 use model::answer::Answer;
 use ring::wide;
-ghost use mathlib.Core.Path.{_≡_};
 ghost use Prim.Native.Nat.{_<_, _≤_};
 ghost use Rattle.ring.specs.Table.{Sound};
 ghost use Rattle.counts.specs.Counts.{limit};

@@ -14,7 +14,7 @@ use simset::steps::head_or_none;
 ghost use mathlib.Core.Path.{_≡_};
 ghost use Prim.Native.Nat.{_+_, _-_, _<_, _≤_};
 ghost use Rattle.ring.specs.Table.{Sound};
-ghost use Rattle.counts.specs.Counts.{isProcess, total, placeOf};
+ghost use Rattle.counts.specs.Counts.{isProcess, total};
 ghost use Rattle.sets.specs.Calls.{orNone};
 ghost use Rattle.sequencing.specs.Plain.{timedNeed};
 ghost use Rattle.sequencing.specs.Calls.{half, yPlace, holdStep, passivateStep, cancelStep, timedStep, finishStep, waitStep};

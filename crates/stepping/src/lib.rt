@@ -1,5 +1,5 @@
 // One step of a run, on judged tables: the call of the record that current is at, or finish; then the process moves on and the line
-// is written.
+// is written. Core functions: the caller knows that the tables were judged.
 pub mod perform;
 pub mod reading;
 
