@@ -10,7 +10,7 @@ use lib.IntN.{ℤ, pos, negsuc, natAbs, _+ℤ_, _-ℤ_, _*ℤ_}
 use lib.Signed.{leZ}
 use mir.Syntax.{w64}
 use mir.Val.{SFits, toZ, ofZ}
-use Rattle.ring.specs.Lists.{below, test, clash}
+use Rattle.rings.specs.Lists.{below, test, clash}
 use Rattle.counts.specs.Counts.{limit}
 use Rattle.counts.specs.declared.Refusal.the-variants.{Accumulator as NotAsRequired}
 use Rattle.accumulator.specs.declared.Accumulator.{Accumulator}

@@ -7,7 +7,7 @@ use native.Mathlib.Omega.{arith}
 use lib.ListN.{length, getD, set}
 use lib.Seq.{set-getD}
 use lib.IntN.{ℤ}
-use Rattle.ring.specs.Lists.{clash}
+use Rattle.rings.specs.Lists.{clash}
 use Rattle.counts.specs.declared.Counts.{Counts}
 use Rattle.counts.specs.declared.Refusal.{Refusal}
 use Rattle.counts.specs.Counts.{limit}

@@ -8,7 +8,7 @@ use lib.Dec.{eqb, leb}
 use lib.ListN.{length, getD}
 use lib.IntN.{ℤ}
 use borrow.Author.Tests.{leb-true, eqb-true, not-true, not-false}
-use Rattle.ring.specs.Lists.{test, clash}
+use Rattle.rings.specs.Lists.{test, clash}
 use Rattle.counts.specs.declared.Counts.{Counts}
 use Rattle.counts.specs.declared.Refusal.{Refusal}
 use Rattle.counts.specs.declared.Refusal.the-variants.{Size, Operand}

@@ -8,7 +8,7 @@ use lib.ListN.{length, getD, set, replicate}
 use lib.Seq.{getD-set-same, getD-set-other, set-out}
 use lib.IntN.{ℤ, natAbs, _+ℤ_}
 use borrow.Author.Tests.{eq-eqb}
-use Rattle.ring.specs.Lists.{below, decide, clash}
+use Rattle.rings.specs.Lists.{below, decide, clash}
 use Rattle.counts.specs.declared.Counts.{Counts}
 use Rattle.counts.specs.declared.Refusal.{Refusal}
 use Rattle.counts.specs.declared.Refusal.the-variants.{Accumulator as NotAsRequired}

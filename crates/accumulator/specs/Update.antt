@@ -8,7 +8,7 @@ use borrow.Author.Tests.{le-leb, lt-leb, ltb-true, leb-true}
 use lib.Dec.{T, leb}
 use lib.IntN.{ℤ, pos, negsuc, natAbs, _+ℤ_, _-ℤ_, _*ℤ_}
 use lib.Signed.{leZ, ltZ}
-use Rattle.ring.specs.Lists.{if_then_else_}
+use Rattle.rings.specs.Lists.{if_then_else_}
 use Rattle.counts.specs.Counts.{limit, both}
 use Rattle.counts.specs.declared.Refusal.the-variants.{Accumulator as NotAsRequired}
 use Rattle.accumulator.specs.declared.Accumulator.{Accumulator}

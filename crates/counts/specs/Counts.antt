@@ -5,7 +5,7 @@ use mathlib.Core.Path.{_≡_, refl, sym, _∙_}
 use mathlib.Core.Bool.{Bool, true, false, not, _&&_}
 use lib.Dec.{leb, ltb}
 use borrow.Author.Tests.{leb-true, le-leb, lt-leb, not-true, not-false}
-use Rattle.ring.specs.Lists.{if_then_else_, test, clash}
+use Rattle.rings.specs.Lists.{if_then_else_, test, clash}
 use Rattle.counts.specs.declared.Counts.{Counts}
 use Rattle.counts.specs.declared.CountsMade.{CountsMade}
 use Rattle.counts.specs.declared.CountsMade.the-variants.{Made, Refused}

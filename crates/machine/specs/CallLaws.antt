@@ -8,8 +8,8 @@ use native.Mathlib.Omega.{arith}
 use lib.Dec.{leb, eqb}
 use lib.IntN.{ℤ}
 use borrow.Author.Tests.{eq-eqb, eqb-false, leb-true, leb-false}
-use Rattle.ring.specs.Lists.{In, test}
-use Rattle.ring.specs.Distinct.{Dist}
+use Rattle.rings.specs.Lists.{In, test}
+use Rattle.rings.specs.Distinct.{Dist}
 use Rattle.counts.specs.declared.Counts.{Counts}
 use Rattle.counts.specs.Counts.{limit, main, isHead, isProcess}
 use Rattle.model.specs.Notices.{Notice, whos, InOrder}

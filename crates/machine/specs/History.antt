@@ -6,7 +6,7 @@ use mathlib.Core.Logic.{_≢_}
 use mathlib.Core.Bool.{Bool, false, not, _&&_, _||_}
 use mathlib.Core.List.{List}
 use lib.Dec.{leb, eqb}
-use Rattle.ring.specs.Lists.{if_then_else_, In}
+use Rattle.rings.specs.Lists.{if_then_else_, In}
 use Rattle.model.specs.Notices.{Notice, whos, dueOf}
 use Rattle.model.specs.Tables.{Lists}
 use Rattle.sequencing.specs.NoticeOps.{hasNotice}

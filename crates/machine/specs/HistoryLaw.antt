@@ -6,7 +6,7 @@ use mathlib.Core.Bool.{true, false}
 use mathlib.Core.List.{List}
 use native.Mathlib.Omega.{arith}
 use borrow.Author.Tests.{eq-eqb, ne-eqb, eqb-true}
-use Rattle.ring.specs.Lists.{In, test, clash}
+use Rattle.rings.specs.Lists.{In, test, clash}
 use Rattle.counts.specs.Counts.{main}
 use Rattle.model.specs.Notices.{whos, dueOf}
 use Rattle.sequencing.specs.Orders.{Before}

@@ -3,8 +3,8 @@ use Prim.Native.Nat.{ℕ, _-_, _≤_, _<_, _+_}
 use mathlib.Core.Path.{_≡_}
 use mathlib.Core.Logic.{_≢_}
 use lib.ListN.{length, getD}
-use Rattle.ring.specs.Lists.{In}
-use Rattle.ring.specs.Distinct.{Dist, joined}
+use Rattle.rings.specs.Lists.{In}
+use Rattle.rings.specs.Distinct.{Dist, joined}
 use Rattle.counts.specs.Counts.{Allowed, total, main}
 use Rattle.model.specs.Notices.{whos, InOrder, Within}
 use Rattle.sequencing.specs.Plain.{time}

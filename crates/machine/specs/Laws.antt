@@ -6,7 +6,7 @@ use mathlib.Core.Bool.{true}
 use mathlib.Core.List.{List}
 use native.Mathlib.Omega.{arith}
 use lib.ListN.{length, getD, List·getD-eq-default, length-replicate}
-use Rattle.ring.specs.Lists.{below}
+use Rattle.rings.specs.Lists.{below}
 use Rattle.model.specs.Formed.{notice-each, notice-process}
 use Rattle.model.specs.Once.{links-once, set-links}
 use Rattle.model.specs.Fresh.{freshTables, fresh-spells}

@@ -8,10 +8,10 @@ use native.Mathlib.Omega.{arith}
 use lib.Dec.{ltb, eqb}
 use lib.ListN.{getD}
 use borrow.Author.Tests.{leb-true, leb-false, ltb-false, eqb-false, lt-ltb}
-use Rattle.ring.specs.Lists.{In, test}
-use Rattle.ring.specs.Chain.{Chain}
-use Rattle.ring.specs.Rings.{Head}
-use Rattle.ring.specs.Stores.{sucs, pres, suc-at}
+use Rattle.rings.specs.Lists.{In, test}
+use Rattle.rings.specs.Chain.{Chain}
+use Rattle.rings.specs.Rings.{Head}
+use Rattle.rings.specs.Stores.{sucs, pres, suc-at}
 use Rattle.counts.specs.declared.Counts.{Counts}
 use Rattle.counts.specs.Counts.{total, isHead, linkageAt}
 use Rattle.model.specs.declared.answer.Answer.the-variants.{Linkage, Number}

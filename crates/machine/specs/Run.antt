@@ -3,7 +3,7 @@ use Prim.Native.Nat.{ℕ, zero, suc, _/_}
 use mathlib.Core.Bool.{Bool, _&&_}
 use mathlib.Core.List.{List, [], _∷_, _++_}
 use lib.Dec.{leb, eqb}
-use Rattle.ring.specs.Lists.{if_then_else_}
+use Rattle.rings.specs.Lists.{if_then_else_}
 use Rattle.counts.specs.declared.Refusal.the-variants.{Size}
 use Rattle.counts.specs.Counts.{main}
 use Rattle.sequencing.specs.Plain.{current}

@@ -7,10 +7,10 @@ use mathlib.Core.List.{List, [], _∷_}
 use lib.Dec.{eqb}
 use lib.IntN.{ℤ, pos, negsuc}
 use lib.ListN.{getD}
-use Rattle.ring.specs.Lists.{if_then_else_}
-use Rattle.ring.specs.Distinct.{joined}
-use Rattle.ring.specs.Tabulate.{has}
-use Rattle.ring.specs.Table.{unlinked, linkedBehind, linkedBefore, selfLinked}
+use Rattle.rings.specs.Lists.{if_then_else_}
+use Rattle.rings.specs.Distinct.{joined}
+use Rattle.rings.specs.Tabulate.{has}
+use Rattle.rings.specs.Table.{unlinked, linkedBehind, linkedBefore, selfLinked}
 use Rattle.counts.specs.declared.Counts.{Counts}
 use Rattle.counts.specs.Refusals.{refusalNumber}
 use Rattle.model.specs.declared.answer.Answer.{Answer}

@@ -7,8 +7,8 @@ use mathlib.Core.List.{List, [], _∷_}
 use native.Mathlib.Omega.{arith}
 use lib.Dec.{eqb}
 use borrow.Author.Tests.{eq-eqb, ne-eqb, eqb-true, eqb-false}
-use Rattle.ring.specs.Lists.{In, decide, test, clash}
-use Rattle.ring.specs.Distinct.{Dist}
+use Rattle.rings.specs.Lists.{In, decide, test, clash}
+use Rattle.rings.specs.Distinct.{Dist}
 use Rattle.model.specs.Notices.{Notice, whos, dueOf, InOrder}
 use Rattle.sequencing.specs.NoticeOps.{dropped}
 use Rattle.sequencing.specs.Orders.{Before, Next}

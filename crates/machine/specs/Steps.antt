@@ -5,7 +5,7 @@ use mathlib.Core.List.{List, [], _∷_}
 use lib.Dec.{ltb, eqb}
 use lib.IntN.{pos}
 use lib.ListN.{getD}
-use Rattle.ring.specs.Lists.{if_then_else_}
+use Rattle.rings.specs.Lists.{if_then_else_}
 use Rattle.model.specs.Tables.{Lists, membersOf}
 use Rattle.sets.specs.Sets.{noLinks}
 use Rattle.sequencing.specs.Plain.{Result, refused, done, current, time}

@@ -8,7 +8,7 @@ use Rattle.model.specs.declared.answer.Answer.{Answer}
 use Rattle.model.specs.declared.answer.Answer.the-variants.{Done, Linkage, Number, Truth, Refused}
 use Rattle.model.specs.declared.verdict.Verdict.{Verdict}
 use Rattle.model.specs.declared.verdict.Verdict.the-variants.{Fine, Refused as Turned}
-use Rattle.ring.specs.Tabulate.{bit}
+use Rattle.rings.specs.Tabulate.{bit}
 use Rattle.model.specs.Tables.{Tables, After}
 use Rattle.model.specs.Judge.{judged}
 

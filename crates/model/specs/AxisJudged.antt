@@ -10,15 +10,15 @@ use lib.ListN.{length, getD}
 use lib.Seq.{getD-take}
 use borrow.Author.Tests.{eq-eqb, ne-eqb, eqb-true, eqb-false}
 use Rattle.counts.specs.Counts.{limit, both}
-use Rattle.ring.specs.Lists.{In, decide, clash}
-use Rattle.ring.specs.Chain.{Chain, next-in}
-use Rattle.ring.specs.Rings.{Head, Rings, apart, rings-cong, free}
-use Rattle.ring.specs.Stores.{sucs, pres}
+use Rattle.rings.specs.Lists.{In, decide, clash}
+use Rattle.rings.specs.Chain.{Chain, next-in}
+use Rattle.rings.specs.Rings.{Head, Rings, apart, rings-cong, free}
+use Rattle.rings.specs.Stores.{sucs, pres}
 use Rattle.model.specs.Tables.{axisHead, SpellsAxis}
-use Rattle.ring.specs.Judge.{idle, ringsFine}
-use Rattle.ring.specs.Busy.{idle-not, zeros-idle}
-use Rattle.ring.specs.Rows.{Layout}
-use Rattle.ring.specs.Fine.{sound, complete}
+use Rattle.rings.specs.Judge.{idle, ringsFine}
+use Rattle.rings.specs.Busy.{idle-not, zeros-idle}
+use Rattle.rings.specs.Rows.{Layout}
+use Rattle.rings.specs.Fine.{sound, complete}
 use Rattle.model.specs.Judge.{placesFine, axisFine}
 use Rattle.model.specs.Tests.{NeverFall, unless, time-idle, time-mean, mean-time, mark-none, mark-idle, mark-mean, places-mean, mean-places, never-fall, order-next}
 

@@ -7,16 +7,16 @@ use mathlib.Core.List.{List}
 use native.Mathlib.Omega.{arith}
 use lib.ListN.{length, getD}
 use borrow.Author.Tests.{leb-true, leb-false, le-leb, lt-leb}
-use Rattle.ring.specs.Lists.{In, decide, test, inside}
-use Rattle.ring.specs.Distinct.{Dist}
-use Rattle.ring.specs.Stores.{sucs, pres}
-use Rattle.ring.specs.Spell.{spells-dist}
-use Rattle.ring.specs.Rows.{Layout}
-use Rattle.ring.specs.Fine.{sound, complete}
+use Rattle.rings.specs.Lists.{In, decide, test, inside}
+use Rattle.rings.specs.Distinct.{Dist}
+use Rattle.rings.specs.Stores.{sucs, pres}
+use Rattle.rings.specs.Spell.{spells-dist}
+use Rattle.rings.specs.Rows.{Layout}
+use Rattle.rings.specs.Fine.{sound, complete}
 use Rattle.counts.specs.declared.Counts.{Counts}
 use Rattle.counts.specs.Counts.{total, both, and-on}
 use Rattle.model.specs.Notices.{whos, places, dueOf}
-use Rattle.ring.specs.Tabulate.{has, bit, table-at, at-table, has-in}
+use Rattle.rings.specs.Tabulate.{has, bit, table-at, at-table, has-in}
 use Rattle.model.specs.Tables.{Tables, Lengths, Lists, setHead, axisHead, SpellsSets, Spells, WellFormed}
 use Rattle.model.specs.Judge.{linksFine, axisFine, tablesFine}
 use Rattle.model.specs.AxisJudged.{AxisSpelled, axis-sound, axis-complete, axis-head, axis-event}

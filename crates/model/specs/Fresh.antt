@@ -7,12 +7,12 @@ use mathlib.Core.List.{List, [], _∷_}
 use native.Mathlib.Omega.{arith}
 use lib.ListN.{length, getD, replicate, length-replicate}
 use borrow.Author.Tests.{eq-eqb, eqb-true, eqb-false, ne-eqb, leb-true, leb-false}
-use Rattle.ring.specs.Lists.{if_then_else_, ahead, decide, zeros, clash}
-use Rattle.ring.specs.Rings.{Link}
-use Rattle.ring.specs.Table.{selfLinked, linkedBefore}
-use Rattle.ring.specs.Stores.{sucs, pres, suc-at}
-use Rattle.ring.specs.Spell.{spells-before, spells-cong}
-use Rattle.ring.specs.Empty.{spells-empty, length-zeros, getD-zeros, self-length, self-s, self-p, other-s, other-p}
+use Rattle.rings.specs.Lists.{if_then_else_, ahead, decide, zeros, clash}
+use Rattle.rings.specs.Rings.{Link}
+use Rattle.rings.specs.Table.{selfLinked, linkedBefore}
+use Rattle.rings.specs.Stores.{sucs, pres, suc-at}
+use Rattle.rings.specs.Spell.{spells-before, spells-cong}
+use Rattle.rings.specs.Empty.{spells-empty, length-zeros, getD-zeros, self-length, self-s, self-p, other-s, other-p}
 use Rattle.counts.specs.declared.Counts.{Counts}
 use Rattle.counts.specs.declared.Refusal.{Refusal}
 use Rattle.counts.specs.declared.Refusal.the-variants.{Size}
@@ -20,7 +20,7 @@ use Rattle.model.specs.declared.verdict.Verdict.{Verdict}
 use Rattle.model.specs.declared.verdict.Verdict.the-variants.{Fine, Refused}
 use Rattle.counts.specs.Counts.{inLimits, Allowed, total, main}
 use Rattle.model.specs.Notices.{dueOf}
-use Rattle.ring.specs.Tabulate.{listed, at-table}
+use Rattle.rings.specs.Tabulate.{listed, at-table}
 use Rattle.model.specs.Tables.{Tables, Lists, After, setHead, axisHead, membersOf, SpellsSets, SpellsAxis, Spells}
 use Rattle.model.specs.Judge.{lengthsFine}
 use Rattle.model.specs.AxisJudged.{axis-head, axis-layout}

@@ -4,9 +4,9 @@ use mathlib.Core.Bool.{Bool, true, false, _&&_}
 use mathlib.Core.List.{List}
 use lib.Dec.{eqb, leb, ltb}
 use lib.ListN.{length, getD}
-use Rattle.ring.specs.Lists.{if_then_else_}
-use Rattle.ring.specs.Stores.{sucs, pres}
-use Rattle.ring.specs.Judge.{idle, ringsFine}
+use Rattle.rings.specs.Lists.{if_then_else_}
+use Rattle.rings.specs.Stores.{sucs, pres}
+use Rattle.rings.specs.Judge.{idle, ringsFine}
 use Rattle.counts.specs.declared.Counts.{Counts}
 use Rattle.counts.specs.declared.Refusal.the-variants.{Size, Malformed}
 use Rattle.model.specs.declared.verdict.Verdict.{Verdict}

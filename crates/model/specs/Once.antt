@@ -2,12 +2,12 @@
 use Prim.Native.Nat.{ℕ, _+_, _<_, _≤_}
 use native.Mathlib.Omega.{arith}
 use borrow.Author.Tests.{leb-false}
-use Rattle.ring.specs.Lists.{In}
-use Rattle.ring.specs.Distinct.{Dist, joined}
-use Rattle.ring.specs.Stores.{sucs, pres}
-use Rattle.ring.specs.Rows.{Rows, rows-dist, rows-busy}
-use Rattle.ring.specs.Fine.{rings-rows}
-use Rattle.ring.specs.Tabulate.{length-table, has, bit}
+use Rattle.rings.specs.Lists.{In}
+use Rattle.rings.specs.Distinct.{Dist, joined}
+use Rattle.rings.specs.Stores.{sucs, pres}
+use Rattle.rings.specs.Rows.{Rows, rows-dist, rows-busy}
+use Rattle.rings.specs.Fine.{rings-rows}
+use Rattle.rings.specs.Tabulate.{length-table, has, bit}
 use Rattle.counts.specs.declared.Counts.{Counts}
 use Rattle.counts.specs.Counts.{Allowed, total}
 use Rattle.model.specs.Notices.{dueOf}

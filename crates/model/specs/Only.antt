@@ -7,13 +7,13 @@ use native.Mathlib.Omega.{arith}
 use lib.ListN.{getD}
 use lib.Seq.{ext-getD}
 use borrow.Author.Tests.{le-leb}
-use Rattle.ring.specs.Lists.{In}
-use Rattle.ring.specs.Spell.{spells-one}
-use Rattle.ring.specs.OneTable.{one-table}
+use Rattle.rings.specs.Lists.{In}
+use Rattle.rings.specs.Spell.{spells-one}
+use Rattle.rings.specs.OneTable.{one-table}
 use Rattle.counts.specs.declared.Counts.{Counts}
 use Rattle.counts.specs.Counts.{total}
 use Rattle.model.specs.Notices.{places}
-use Rattle.ring.specs.Tabulate.{has, bit, table-at, has-in, in-has, bit-one}
+use Rattle.rings.specs.Tabulate.{has, bit, table-at, has-in, in-has, bit-one}
 use Rattle.model.specs.Tables.{Tables, Lists, setHead, axisHead, membersOf, SpellsSets, Spells}
 use Rattle.model.specs.AxisJudged.{axis-head}
 use Rattle.model.specs.Reading.{noticesOf, notices-are}

@@ -7,12 +7,12 @@ use native.Mathlib.Omega.{arith}
 use lib.Dec.{eqb}
 use lib.ListN.{length, getD}
 use borrow.Author.Tests.{eq-eqb, ne-eqb}
-use Rattle.ring.specs.Lists.{if_then_else_, In, decide, test}
-use Rattle.ring.specs.Distinct.{Dist}
+use Rattle.rings.specs.Lists.{if_then_else_, In, decide, test}
+use Rattle.rings.specs.Distinct.{Dist}
 use Rattle.counts.specs.declared.Counts.{Counts}
 use Rattle.counts.specs.Counts.{limit}
 use Rattle.model.specs.Notices.{Notice, whos, places, dueOf, From, InOrder, Within}
-use Rattle.ring.specs.Tabulate.{has, bit, has-in, in-has}
+use Rattle.rings.specs.Tabulate.{has, bit, has-in, in-has}
 use Rattle.model.specs.Tests.{NeverFall}
 
 -- ---- from events to notices

@@ -6,11 +6,11 @@ use mathlib.Core.List.{List, [], _∷_}
 use native.Mathlib.Omega.{arith}
 use native.Mathlib.Nat.{not-suc-le-zero}
 use lib.ListN.{length, getD, List·getD-eq-default}
-use Rattle.ring.specs.Lists.{In, below, inside}
-use Rattle.ring.specs.Chain.{Chain, forth}
-use Rattle.ring.specs.Table.{Sound}
-use Rattle.ring.specs.Stores.{sucs, pres, suc-at}
-use Rattle.ring.specs.Spell.{spells-sound}
+use Rattle.rings.specs.Lists.{In, below, inside}
+use Rattle.rings.specs.Chain.{Chain, forth}
+use Rattle.rings.specs.Table.{Sound}
+use Rattle.rings.specs.Stores.{sucs, pres, suc-at}
+use Rattle.rings.specs.Spell.{spells-sound}
 use Rattle.counts.specs.declared.Counts.{Counts}
 use Rattle.model.specs.declared.verdict.Verdict.the-variants.{Fine}
 use Rattle.counts.specs.Counts.{Allowed, total, limit}

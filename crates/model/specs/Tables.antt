@@ -6,12 +6,12 @@ use mathlib.Core.Bool.{Bool}
 use mathlib.Core.List.{List, [], _∷_}
 use lib.Dec.{leb, eqb}
 use lib.ListN.{length, getD}
-use Rattle.ring.specs.Lists.{In}
-use Rattle.ring.specs.Spell as ring
+use Rattle.rings.specs.Lists.{In}
+use Rattle.rings.specs.Spell as ring
 use Rattle.counts.specs.declared.Counts.{Counts}
 use Rattle.counts.specs.Counts.{Allowed, total, main}
 use Rattle.model.specs.Notices.{Notice, whos, places, dueOf, InOrder, Within}
-use Rattle.ring.specs.Tabulate.{listed, has, bit}
+use Rattle.rings.specs.Tabulate.{listed, has, bit}
 
 -- the four tables of a model, as lists of their words
 pub record Tables : Type 0 where

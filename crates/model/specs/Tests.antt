@@ -9,9 +9,9 @@ use lib.Dec.{eqb, leb}
 use lib.ListN.{length, getD}
 use borrow.Author.Tests.{eq-eqb, ne-eqb, le-leb, lt-leb, leb-true, lt-ltb, le-ltb}
 use Rattle.counts.specs.Counts.{limit}
-use Rattle.ring.specs.Lists.{if_then_else_, In, decide, below, test, clash}
-use Rattle.ring.specs.Chain.{Chain}
-use Rattle.ring.specs.Judge.{idle}
+use Rattle.rings.specs.Lists.{if_then_else_, In, decide, below, test, clash}
+use Rattle.rings.specs.Chain.{Chain}
+use Rattle.rings.specs.Judge.{idle}
 use Rattle.model.specs.Judge.{timeFine, markFine, placesFine}
 
 pub unless : (a b : Bool) → (if a then false else b) ≡ true → (a ≡ false) × (b ≡ true)

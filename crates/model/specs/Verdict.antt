@@ -6,7 +6,7 @@ use mathlib.Core.Bool.{Bool, true, false, not, _&&_}
 use lib.Dec.{eqb}
 use lib.ListN.{length}
 use borrow.Author.Tests.{eq-eqb, eqb-true, not-true, not-false}
-use Rattle.ring.specs.Lists.{test, clash}
+use Rattle.rings.specs.Lists.{test, clash}
 use Rattle.counts.specs.declared.Counts.{Counts}
 use Rattle.counts.specs.declared.Refusal.the-variants.{Size, Malformed}
 use Rattle.model.specs.declared.verdict.Verdict.{Verdict}

@@ -7,7 +7,7 @@ use ring::wide;
 use simset::procedures::link_or;
 ghost use mathlib.Core.Path.{_≡_};
 ghost use Prim.Native.Nat.{_+_};
-ghost use Rattle.ring.specs.Table.{Sound};
+ghost use Rattle.rings.specs.Table.{Sound};
 ghost use Rattle.counts.specs.Counts.{total};
 ghost use Rattle.sets.specs.Calls.{firstTold, lastTold, sucTold, predTold, emptyTold, cardinalTold};
 

@@ -9,13 +9,13 @@ use native.Mathlib.Numerals.{add-one}
 use lib.Dec.{eqb}
 use lib.ListN.{length, getD}
 use borrow.Author.Tests.{not-true, not-false}
-use Rattle.ring.specs.Lists.{if_then_else_, decide, test}
-use Rattle.ring.specs.Stores.{sucs, pres, suc-at}
-use Rattle.ring.specs.Judge.{Space, Stepped, Bounded, allowed, step, walk, closed, idle, busy, ringsFine}
-use Rattle.ring.specs.RingWalk.{allowed-mean, step-not, step-one-way, step-is, walk-broken, walk-back, walk-short, walk-on}
-use Rattle.ring.specs.Busy.{idle-not, idle-last, busy-none, busy-idle, busy-more}
-use Rattle.ring.specs.Rows.{closed-none, closed-broken, closed-on}
-use Rattle.ring.specs.Fine.{fine-not, fine-is}
+use Rattle.rings.specs.Lists.{if_then_else_, decide, test}
+use Rattle.rings.specs.Stores.{sucs, pres, suc-at}
+use Rattle.rings.specs.Judge.{Space, Stepped, Bounded, allowed, step, walk, closed, idle, busy, ringsFine}
+use Rattle.rings.specs.RingWalk.{allowed-mean, step-not, step-one-way, step-is, walk-broken, walk-back, walk-short, walk-on}
+use Rattle.rings.specs.Busy.{idle-not, idle-last, busy-none, busy-idle, busy-more}
+use Rattle.rings.specs.Rows.{closed-none, closed-broken, closed-on}
+use Rattle.rings.specs.Fine.{fine-not, fine-is}
 
 module _ (m : ℕ) (t : List ℕ) where
   pub not-idle : (x : ℕ) → x < m → getD t x 0 ≢ 0 → false ≡ idle (sucs m t) (pres m t) x

@@ -4,9 +4,9 @@ use crate::wide;
 ghost use mathlib.Core.Path.{_≡_};
 ghost use Prim.Native.Nat.{_+_, _*_, _-_, _<_, _≤_};
 ghost use lib.ListN.{length};
-ghost use Rattle.ring.specs.Lists.{if_then_else_};
-ghost use Rattle.ring.specs.Stores.{sucs, pres};
-ghost use Rattle.ring.specs.Judge.{Space, Plan, Stepped, Bounded, allowed, step, walk, closed, idle, busy, ringsFine};
+ghost use Rattle.rings.specs.Lists.{if_then_else_};
+ghost use Rattle.rings.specs.Stores.{sucs, pres};
+ghost use Rattle.rings.specs.Judge.{Space, Plan, Stepped, Bounded, allowed, step, walk, closed, idle, busy, ringsFine};
 
 // May s stand on the ring of h?
 fn may_stand(lo: usize, hi: usize, h: usize, s: usize) -> bool

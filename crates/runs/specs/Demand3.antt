@@ -4,8 +4,8 @@ use mathlib.Core.Path.{_≡_, refl, sym, _∙_}
 use mathlib.Core.Bool.{true}
 use mathlib.Core.List.{List, [], _∷_}
 use lib.ListN.{length}
-use Rattle.ring.specs.Lists.{In}
-use Rattle.ring.specs.Distinct.{Dist, joined}
+use Rattle.rings.specs.Lists.{In}
+use Rattle.rings.specs.Distinct.{Dist, joined}
 use Rattle.model.specs.Notices.{whos}
 use Rattle.model.specs.Only.{tables-only}
 use Rattle.model.specs.declared.verdict.Verdict.the-variants.{Fine}

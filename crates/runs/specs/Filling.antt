@@ -9,8 +9,8 @@ use lib.IntN.{ℤ, pos}
 use lib.ListN.{length, getD, set, length-set, replicate, length-replicate}
 use lib.Seq.{ext-getD, getD-set-same, getD-set-other}
 use borrow.Author.Tests.{eq-eqb, ne-eqb}
-use Rattle.ring.specs.Lists.{if_then_else_, decide, test, clash}
-use Rattle.ring.specs.Tabulate.{at-table}
+use Rattle.rings.specs.Lists.{if_then_else_, decide, test, clash}
+use Rattle.rings.specs.Tabulate.{at-table}
 use Rattle.counts.specs.declared.Counts.{Counts}
 use Rattle.counts.specs.declared.Refusal.{Refusal}
 use Rattle.counts.specs.declared.Refusal.the-variants.{Size}

@@ -7,8 +7,8 @@ use native.Mathlib.Omega.{arith}
 use lib.Dec.{eqb}
 use lib.IntN.{ℤ, pos}
 use lib.ListN.{length, getD, replicate, length-replicate}
-use Rattle.ring.specs.Lists.{if_then_else_}
-use Rattle.ring.specs.Tabulate.{listed}
+use Rattle.rings.specs.Lists.{if_then_else_}
+use Rattle.rings.specs.Tabulate.{listed}
 use Rattle.counts.specs.declared.Counts.{Counts}
 use Rattle.counts.specs.declared.Refusal.the-variants.{Size}
 use Rattle.model.specs.declared.verdict.Verdict.{Verdict}

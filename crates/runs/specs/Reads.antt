@@ -9,7 +9,7 @@ use lib.Dec.{eqb}
 use lib.IntN.{ℤ}
 use lib.ListN.{length, getD}
 use borrow.Author.Tests.{eq-eqb, ne-eqb, lt-ltb, le-ltb}
-use Rattle.ring.specs.Lists.{decide}
+use Rattle.rings.specs.Lists.{decide}
 use Rattle.counts.specs.declared.Counts.{Counts}
 use Rattle.sets.specs.Procedures.{emptyOf, linkOr}
 use Rattle.sheet.specs.declared.records.Record.{Record}

@@ -9,7 +9,7 @@ use native.Mathlib.Omega.{arith}
 use lib.Dec.{eqb}
 use lib.ListN.{getD}
 use borrow.Author.Tests.{eq-eqb, ne-eqb}
-use Rattle.ring.specs.Lists.{decide}
+use Rattle.rings.specs.Lists.{decide}
 use Rattle.counts.specs.declared.Counts.{Counts}
 use Rattle.counts.specs.Counts.{main, isHead, linkageAt}
 use Rattle.model.specs.Tables.{Lists, Sized, membersOf}

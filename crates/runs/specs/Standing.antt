@@ -8,7 +8,7 @@ use native.Mathlib.Omega.{arith}
 use lib.Dec.{leb, ltb, eqb}
 use lib.ListN.{length, getD}
 use borrow.Author.Tests.{eqb-false, ltb-true, lt-ltb}
-use Rattle.ring.specs.Lists.{decide, test}
+use Rattle.rings.specs.Lists.{decide, test}
 use Rattle.counts.specs.declared.Counts.{Counts}
 use Rattle.counts.specs.Counts.{Allowed}
 use Rattle.model.specs.Tables.{Tables, Sized, Spells}

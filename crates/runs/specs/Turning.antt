@@ -6,7 +6,7 @@ use mathlib.Core.List.{List}
 use native.Mathlib.Omega.{arith}
 use lib.ListN.{length, getD}
 use lib.Seq.{getD-set-same}
-use Rattle.ring.specs.Lists.{clash}
+use Rattle.rings.specs.Lists.{clash}
 use Rattle.counts.specs.declared.Counts.{Counts}
 use Rattle.counts.specs.declared.Refusal.{Refusal}
 use Rattle.sequencing.specs.Plain.{Result, refused, done, current}

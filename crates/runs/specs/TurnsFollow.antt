@@ -6,8 +6,8 @@ use mathlib.Core.Bool.{true}
 use mathlib.Core.List.{List, [], _++_, map}
 use native.Mathlib.Omega.{arith}
 use lib.ListN.{length, take, drop, take-append-drop}
-use Rattle.ring.specs.Lists.{test}
-use Rattle.ring.specs.Distinct.{joined}
+use Rattle.rings.specs.Lists.{test}
+use Rattle.rings.specs.Distinct.{joined}
 use Rattle.counts.specs.declared.Counts.{Counts}
 use Rattle.sequencing.specs.Plain.{Result, refused, done, current}
 use Rattle.sheet.specs.Sheet.{countsOf, recordsOf, Sheet, sheetOf}

@@ -9,8 +9,8 @@ use lib.Dec.{ltb, eqb}
 use lib.ListN.{length, getD, set}
 use lib.Seq.{getD-take}
 use borrow.Author.Tests.{eq-eqb, ne-eqb, leb-true, ltb-true}
-use Rattle.ring.specs.Lists.{if_then_else_, In, decide, test}
-use Rattle.ring.specs.Tabulate.{listed, has, bit}
+use Rattle.rings.specs.Lists.{if_then_else_, In, decide, test}
+use Rattle.rings.specs.Tabulate.{listed, has, bit}
 use Rattle.counts.specs.declared.Counts.{Counts}
 use Rattle.counts.specs.declared.Refusal.the-variants.{NoNotice}
 use Rattle.counts.specs.Counts.{main, isHead, isProcess}

@@ -8,8 +8,8 @@ use lib.Dec.{leb, ltb, eqb}
 use lib.IntN.{ℤ, pos, negsuc, _+ℤ_}
 use lib.ListN.{getD}
 use borrow.Author.Tests.{eq-eqb, ne-eqb, eqb-true, eqb-false, le-leb, le-ltb, leb-true}
-use Rattle.ring.specs.Lists.{if_then_else_, In, decide, test}
-use Rattle.ring.specs.Tabulate.{has, bit, listed-at}
+use Rattle.rings.specs.Lists.{if_then_else_, In, decide, test}
+use Rattle.rings.specs.Tabulate.{has, bit, listed-at}
 use Rattle.counts.specs.declared.Counts.{Counts}
 use Rattle.counts.specs.Counts.{limit, isProcess}
 use Rattle.model.specs.Notices.{Notice, whos, dueOf, From, InOrder}

@@ -5,11 +5,11 @@ use mathlib.Core.List.{List, [], _∷_}
 use native.Mathlib.Omega.{arith}
 use borrow.Author.Tests.{eq-eqb, ne-eqb, eqb-true}
 use mathlib.Core.Logic.{inl, inr}
-use Rattle.ring.specs.Lists.{In, without, behind, decide}
-use Rattle.ring.specs.Rings.{Head, Link}
-use Rattle.ring.specs.Table.{unlinked, linkedBehind}
-use Rattle.ring.specs.Stores.{sucs}
-use Rattle.ring.specs.Spell.{spells-cong, spells-unlinked, spells-behind}
+use Rattle.rings.specs.Lists.{In, without, behind, decide}
+use Rattle.rings.specs.Rings.{Head, Link}
+use Rattle.rings.specs.Table.{unlinked, linkedBehind}
+use Rattle.rings.specs.Stores.{sucs}
+use Rattle.rings.specs.Spell.{spells-cong, spells-unlinked, spells-behind}
 use Rattle.counts.specs.declared.Counts.{Counts}
 use Rattle.model.specs.Notices.{Notice, whos, places}
 use Rattle.model.specs.Tables.{axisHead, SpellsAxis}

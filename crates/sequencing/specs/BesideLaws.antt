@@ -5,8 +5,8 @@ use mathlib.Core.Logic.{_≢_, _⊎_, inl, inr, ⊎-elim}
 use mathlib.Core.List.{List, [], _∷_}
 use native.Mathlib.Omega.{arith}
 use borrow.Author.Tests.{eq-eqb, ne-eqb}
-use Rattle.ring.specs.Lists.{In, decide}
-use Rattle.ring.specs.Distinct.{Dist}
+use Rattle.rings.specs.Lists.{In, decide}
+use Rattle.rings.specs.Distinct.{Dist}
 use Rattle.model.specs.Notices.{Notice, whos, dueOf, InOrder}
 use Rattle.sequencing.specs.NoticeOps.{before, after}
 use Rattle.sequencing.specs.Orders.{Before, Next}

@@ -8,9 +8,9 @@ use native.Mathlib.Nat.{not-suc-le-zero}
 use lib.Dec.{ltb}
 use lib.ListN.{set}
 use borrow.Author.Tests.{eq-eqb, ne-eqb, le-leb, lt-leb, lt-ltb, le-ltb}
-use Rattle.ring.specs.Lists.{In, below, behind, behind-head, if_then_else_}
-use Rattle.ring.specs.Distinct.{Dist}
-use Rattle.ring.specs.Tabulate.{listed}
+use Rattle.rings.specs.Lists.{In, below, behind, behind-head, if_then_else_}
+use Rattle.rings.specs.Distinct.{Dist}
+use Rattle.rings.specs.Tabulate.{listed}
 use Rattle.counts.specs.declared.Counts.{Counts}
 use Rattle.model.specs.Notices.{Notice, dueOf, whos, places}
 use Rattle.sequencing.specs.NoticeOps.{behindAll, frontAll, dropped}

@@ -5,7 +5,7 @@ use mathlib.Core.List.{List}
 use lib.Dec.{eqb, leb}
 use lib.IntN.{ℤ}
 use lib.ListN.{getD}
-use Rattle.ring.specs.Lists.{if_then_else_}
+use Rattle.rings.specs.Lists.{if_then_else_}
 use Rattle.counts.specs.declared.Counts.{Counts}
 use Rattle.counts.specs.declared.Refusal.the-variants.{Operand, NoNotice, Idle}
 use Rattle.counts.specs.Counts.{total, isHead, isProcess, placeOf, linkageAt}

@@ -1,7 +1,7 @@
 -- Tests on Bools.
 use mathlib.Core.Path.{_≡_, refl, sym}
 use mathlib.Core.Bool.{Bool, true, false, _&&_}
-use Rattle.ring.specs.Lists as lists
+use Rattle.rings.specs.Lists as lists
 
 pub clash : {A : Type 0} → true ≡ false → A
 clash e = lists.clash (sym e)

@@ -8,7 +8,7 @@ use native.Mathlib.Omega.{arith}
 use lib.Dec.{eqb, leb}
 use lib.IntN.{ℤ}
 use borrow.Author.Tests.{eqb-false, leb-true}
-use Rattle.ring.specs.Lists.{In, test}
+use Rattle.rings.specs.Lists.{In, test}
 use Rattle.counts.specs.declared.Counts.{Counts}
 use Rattle.counts.specs.Counts.{limit, main, isHead, isProcess}
 use Rattle.model.specs.Notices.{Notice, whos, From, InOrder}

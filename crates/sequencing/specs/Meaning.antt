@@ -11,8 +11,8 @@ use lib.Dec.{eqb, leb}
 use lib.IntN.{ℤ}
 use lib.ListN.{length}
 use borrow.Author.Tests.{eq-eqb, ne-eqb, le-leb, lt-leb, leb-false, lt-ltb}
-use Rattle.ring.specs.Lists.{decide, test}
-use Rattle.ring.specs.Lists as lists
+use Rattle.rings.specs.Lists.{decide, test}
+use Rattle.rings.specs.Lists as lists
 use Rattle.counts.specs.declared.Counts.{Counts}
 use Rattle.counts.specs.declared.Refusal.the-variants.{Operand, NoNotice}
 use Rattle.counts.specs.Counts.{total, main, isHead, isProcess, isLink}

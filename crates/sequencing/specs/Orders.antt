@@ -3,7 +3,7 @@ use Prim.Native.Nat.{ℕ}
 use mathlib.Core.Path.{_≡_}
 use mathlib.Core.Logic.{_⊎_}
 use mathlib.Core.List.{List, [], _∷_}
-use Rattle.ring.specs.Lists.{In}
+use Rattle.rings.specs.Lists.{In}
 
 abbrev pub Before : ℕ → ℕ → List ℕ → Type 0
 Before a b [] = ⊥

@@ -8,8 +8,8 @@ use native.Mathlib.Omega.{arith}
 use lib.Dec.{eqb, leb}
 use lib.IntN.{ℤ}
 use borrow.Author.Tests.{eq-eqb, ne-eqb, eqb-true, le-leb}
-use Rattle.ring.specs.Lists.{In, test}
-use Rattle.ring.specs.Tabulate.{has, in-has}
+use Rattle.rings.specs.Lists.{In, test}
+use Rattle.rings.specs.Tabulate.{has, in-has}
 use Rattle.model.specs.Notices.{Notice, whos, dueOf, InOrder}
 use Rattle.model.specs.Tables.{Lists}
 use Rattle.sequencing.specs.Choice.{clash}

@@ -7,15 +7,15 @@ use native.Mathlib.Omega.{arith}
 use lib.ListN.{length, getD, set}
 use lib.Seq.{getD-take}
 use borrow.Author.Tests.{eq-eqb, ne-eqb, lt-ltb, le-ltb}
-use Rattle.ring.specs.Lists.{In, below}
-use Rattle.ring.specs.Chain.{Chain}
-use Rattle.ring.specs.Distinct.{Dist}
-use Rattle.ring.specs.Rings.{Head, Link, apart, next-place}
-use Rattle.ring.specs.Stores.{sucs, pres}
-use Rattle.ring.specs.Spell.{spells-dist}
+use Rattle.rings.specs.Lists.{In, below}
+use Rattle.rings.specs.Chain.{Chain}
+use Rattle.rings.specs.Distinct.{Dist}
+use Rattle.rings.specs.Rings.{Head, Link, apart, next-place}
+use Rattle.rings.specs.Stores.{sucs, pres}
+use Rattle.rings.specs.Spell.{spells-dist}
 use Rattle.model.specs.Tables.{axisHead, SpellsAxis}
 use Rattle.sequencing.specs.AxisRing.{axis-unlinked, axis-drop}
-use Rattle.ring.specs.Tabulate.{listed, listed-at}
+use Rattle.rings.specs.Tabulate.{listed, listed-at}
 use Rattle.counts.specs.declared.Counts.{Counts}
 use Rattle.model.specs.Notices.{Notice, dueOf, whos, places, From, InOrder}
 use Rattle.sequencing.specs.NoticeOps.{dropped}

@@ -4,8 +4,8 @@ use mathlib.Core.Bool.{Bool, true, false, not, _&&_, _||_}
 use mathlib.Core.List.{List, [], _∷_}
 use lib.Dec.{leb, eqb}
 use lib.IntN.{ℤ, pos, negsuc, _+ℤ_}
-use Rattle.ring.specs.Lists.{if_then_else_}
-use Rattle.ring.specs.Tabulate.{has}
+use Rattle.rings.specs.Lists.{if_then_else_}
+use Rattle.rings.specs.Tabulate.{has}
 use Rattle.counts.specs.declared.Counts.{Counts}
 use Rattle.counts.specs.declared.Refusal.{Refusal}
 use Rattle.counts.specs.declared.Refusal.the-variants.{Operand, NoNotice, TimeLimit}

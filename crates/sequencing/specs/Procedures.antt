@@ -5,8 +5,8 @@ use mathlib.Core.Bool.{Bool, not, _&&_, _||_}
 use mathlib.Core.List.{List}
 use lib.Dec.{eqb, leb, ltb}
 use lib.ListN.{getD, set}
-use Rattle.ring.specs.Table.{unlinked, linkedBehind}
-use Rattle.ring.specs.Lists.{if_then_else_}
+use Rattle.rings.specs.Table.{unlinked, linkedBehind}
+use Rattle.rings.specs.Lists.{if_then_else_}
 use Rattle.counts.specs.declared.Refusal.{Refusal}
 use Rattle.counts.specs.declared.Refusal.the-variants.{NoNotice, TimeLimit}
 use Rattle.counts.specs.Counts.{limit}

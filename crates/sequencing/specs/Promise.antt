@@ -8,8 +8,8 @@ use lib.Dec.{leb, eqb}
 use lib.ListN.{length, getD, set, List·getD-eq-default}
 use lib.Seq.{set-out}
 use borrow.Author.Tests.{le-leb, lt-leb}
-use Rattle.ring.specs.Table.{Sound}
-use Rattle.ring.specs.Lists.{below, if_then_else_}
+use Rattle.rings.specs.Table.{Sound}
+use Rattle.rings.specs.Lists.{below, if_then_else_}
 use Rattle.counts.specs.declared.Counts.{Counts}
 use Rattle.counts.specs.Counts.{limit, Allowed}
 use Rattle.model.specs.Tables.{Tables}

@@ -5,7 +5,7 @@ use mathlib.Core.Logic.{_⊎_, inl, inr, ⊎-elim}
 use mathlib.Core.List.{List, [], _∷_}
 use native.Mathlib.Omega.{arith}
 use borrow.Author.Tests.{eq-eqb, ne-eqb, le-leb, lt-leb, lt-ltb, le-ltb}
-use Rattle.ring.specs.Lists.{In, decide, below}
+use Rattle.rings.specs.Lists.{In, decide, below}
 use Rattle.model.specs.Notices.{Notice, whos, dueOf, InOrder}
 use Rattle.sequencing.specs.NoticeOps.{behindAll, frontAll}
 use Rattle.sequencing.specs.Orders.{Before}

@@ -9,10 +9,10 @@ use lib.Dec.{eqb, leb, ltb}
 use lib.ListN.{getD}
 use lib.Seq.{getD-take}
 use borrow.Author.Tests.{eq-eqb, ne-eqb, leb-true, ltb-true}
-use Rattle.ring.specs.Lists.{if_then_else_, In, decide, test}
-use Rattle.ring.specs.Tabulate.{has, bit}
-use Rattle.ring.specs.Chain.{Chain}
-use Rattle.ring.specs.Stores.{sucs, pres}
+use Rattle.rings.specs.Lists.{if_then_else_, In, decide, test}
+use Rattle.rings.specs.Tabulate.{has, bit}
+use Rattle.rings.specs.Chain.{Chain}
+use Rattle.rings.specs.Stores.{sucs, pres}
 use Rattle.counts.specs.declared.Counts.{Counts}
 use Rattle.counts.specs.declared.Refusal.the-variants.{Idle}
 use Rattle.counts.specs.Counts.{isProcess, linkageAt, both}

@@ -8,9 +8,9 @@ use native.Mathlib.Omega.{arith}
 use lib.Dec.{eqb}
 use lib.ListN.{length, getD}
 use borrow.Author.Tests.{eq-eqb, ne-eqb, lt-ltb, le-ltb}
-use Rattle.ring.specs.Lists.{In, decide, below, if_then_else_}
-use Rattle.ring.specs.Chain.{Chain}
-use Rattle.ring.specs.Stores.{sucs, pres}
+use Rattle.rings.specs.Lists.{In, decide, below, if_then_else_}
+use Rattle.rings.specs.Chain.{Chain}
+use Rattle.rings.specs.Stores.{sucs, pres}
 use Rattle.counts.specs.declared.Counts.{Counts}
 use Rattle.model.specs.Notices.{Notice, places, From, InOrder}
 use Rattle.sequencing.specs.NoticeLaws.{from-less}

@@ -9,7 +9,7 @@ use native.Mathlib.Omega.{arith}
 use lib.Dec.{eqb}
 use lib.IntN.{ℤ}
 use borrow.Author.Tests.{eq-eqb, ne-eqb, eqb-false, le-leb, lt-leb, lt-ltb, le-ltb}
-use Rattle.ring.specs.Lists.{if_then_else_, In, decide, below, test}
+use Rattle.rings.specs.Lists.{if_then_else_, In, decide, below, test}
 use Rattle.counts.specs.declared.Counts.{Counts}
 use Rattle.model.specs.Notices.{Notice, whos, From, InOrder}
 use Rattle.model.specs.Tables.{Tables, Lists, Sized, Spells}

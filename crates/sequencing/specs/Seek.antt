@@ -7,9 +7,9 @@ use native.Mathlib.Omega.{arith}
 use lib.ListN.{length, getD, length-append}
 use lib.Seq.{getD-take}
 use borrow.Author.Tests.{eq-eqb, ne-eqb, lt-ltb, le-ltb, le-leb, lt-leb}
-use Rattle.ring.specs.Lists.{In, decide, below}
-use Rattle.ring.specs.Chain.{Edge, Chain}
-use Rattle.ring.specs.Stores.{sucs, pres}
+use Rattle.rings.specs.Lists.{In, decide, below}
+use Rattle.rings.specs.Chain.{Edge, Chain}
+use Rattle.rings.specs.Stores.{sucs, pres}
 use Rattle.counts.specs.declared.Counts.{Counts}
 use Rattle.model.specs.Notices.{Notice, places, From, InOrder}
 use Rattle.model.specs.Reading.{Timed}

@@ -7,11 +7,11 @@ use native.Mathlib.Omega.{arith}
 use lib.ListN.{length}
 use lib.Seq.{getD-take}
 use borrow.Author.Tests.{eq-eqb, ne-eqb}
-use Rattle.ring.specs.Lists.{In, decide, behind, ahead, behind-head}
-use Rattle.ring.specs.Chain.{prev-in, back, behind-ahead}
-use Rattle.ring.specs.Distinct.{Dist}
-use Rattle.ring.specs.Stores.{sucs, pres}
-use Rattle.ring.specs.Spell.{spells-few}
+use Rattle.rings.specs.Lists.{In, decide, behind, ahead, behind-head}
+use Rattle.rings.specs.Chain.{prev-in, back, behind-ahead}
+use Rattle.rings.specs.Distinct.{Dist}
+use Rattle.rings.specs.Stores.{sucs, pres}
+use Rattle.rings.specs.Spell.{spells-few}
 use Rattle.model.specs.Tables.{axisHead}
 use Rattle.sequencing.specs.AxisRing.{axis-linked}
 use Rattle.counts.specs.declared.Counts.{Counts}

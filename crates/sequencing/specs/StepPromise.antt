@@ -8,8 +8,8 @@ use native.Mathlib.Omega.{arith}
 use lib.Dec.{leb, ltb}
 use lib.ListN.{getD}
 use borrow.Author.Tests.{eq-eqb, ne-eqb, le-leb, lt-leb, leb-true, not-true, not-false}
-use Rattle.ring.specs.Lists.{if_then_else_, test, clash}
-use Rattle.ring.specs.Table.{Sound, Made}
+use Rattle.rings.specs.Lists.{if_then_else_, test, clash}
+use Rattle.rings.specs.Table.{Sound, Made}
 use Rattle.counts.specs.declared.Counts.{Counts}
 use Rattle.counts.specs.declared.Refusal.the-variants.{Operand, NoNotice}
 use Rattle.counts.specs.Counts.{total, isHead, isProcess, placeOf, both}

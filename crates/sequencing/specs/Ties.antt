@@ -5,8 +5,8 @@ use mathlib.Core.Logic.{_≢_, _⊎_, inl, inr}
 use mathlib.Core.List.{List}
 use native.Mathlib.Omega.{arith}
 use borrow.Author.Tests.{ne-eqb}
-use Rattle.ring.specs.Lists.{In, decide}
-use Rattle.ring.specs.Distinct.{Dist}
+use Rattle.rings.specs.Lists.{In, decide}
+use Rattle.rings.specs.Distinct.{Dist}
 use Rattle.model.specs.Notices.{Notice, whos, dueOf, InOrder}
 use Rattle.sequencing.specs.NoticeOps.{behindAll, frontAll, before, after, dropped}
 use Rattle.sequencing.specs.Orders.{Before, Next}

@@ -5,8 +5,8 @@ use mathlib.Core.Logic.{_≢_}
 use mathlib.Core.List.{List}
 use lib.ListN.{getD}
 use borrow.Author.Tests.{eq-eqb, ne-eqb, lt-ltb, le-ltb}
-use Rattle.ring.specs.Table.{Sound}
-use Rattle.ring.specs.Lists.{decide, below}
+use Rattle.rings.specs.Table.{Sound}
+use Rattle.rings.specs.Lists.{decide, below}
 use Rattle.sequencing.specs.Procedures.{walk}
 
 module _ (m : ℕ) (times : List ℕ) (w : ℕ) (t : List ℕ) where

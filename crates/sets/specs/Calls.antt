@@ -3,7 +3,7 @@ use Prim.Native.Nat.{ℕ, _+_}
 use mathlib.Core.Bool.{Bool, true, false, _&&_, _||_}
 use mathlib.Core.List.{List}
 use lib.Dec.{eqb}
-use Rattle.ring.specs.Table.{unlinked}
+use Rattle.rings.specs.Table.{unlinked}
 use Rattle.counts.specs.declared.Counts.{Counts}
 use Rattle.counts.specs.declared.Refusal.the-variants.{Operand}
 use Rattle.counts.specs.Counts.{total, isHead, isLink, isLinkage}

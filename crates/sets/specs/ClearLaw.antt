@@ -7,12 +7,12 @@ use native.Mathlib.Omega.{arith}
 use lib.ListN.{length, getD, set, length-map, length-set, List·getD-map}
 use lib.Seq.{ext-getD, getD-set-same, getD-set-other, set-getD, set-set}
 use borrow.Author.Tests.{leb-true, eq-eqb}
-use Rattle.ring.specs.Lists.{In, without, decide, without-none}
-use Rattle.ring.specs.Chain.{Chain}
-use Rattle.ring.specs.Rings.{Head, Link, Rings, rings-apart, rings-dist}
-use Rattle.ring.specs.Table.{unlinked}
-use Rattle.ring.specs.Stores.{sucs, pres, suc-at}
-use Rattle.ring.specs.Spell.{spells-few}
+use Rattle.rings.specs.Lists.{In, without, decide, without-none}
+use Rattle.rings.specs.Chain.{Chain}
+use Rattle.rings.specs.Rings.{Head, Link, Rings, rings-apart, rings-dist}
+use Rattle.rings.specs.Table.{unlinked}
+use Rattle.rings.specs.Stores.{sucs, pres, suc-at}
+use Rattle.rings.specs.Spell.{spells-few}
 use Rattle.model.specs.Tables.{setHead, membersOf, SpellsSets}
 use Rattle.sets.specs.Sets.{outSets, clearSets}
 use Rattle.sets.specs.Procedures.{clearing, cleared}

@@ -3,8 +3,8 @@ use Prim.Native.Nat.{ℕ, _+_}
 use mathlib.Core.Path.{_≡_, refl, ap}
 use mathlib.Core.Bool.{Bool, true, false, _&&_}
 use mathlib.Core.List.{List}
-use Rattle.ring.specs.Lists.{clash}
-use Rattle.ring.specs.Table.{unlinked}
+use Rattle.rings.specs.Lists.{clash}
+use Rattle.rings.specs.Table.{unlinked}
 use Rattle.counts.specs.declared.Counts.{Counts}
 use Rattle.counts.specs.declared.Refusal.{Refusal}
 use Rattle.counts.specs.Counts.{total, isHead, isLink, isLinkage}

@@ -6,12 +6,12 @@ use mathlib.Core.List.{List, [], _∷_}
 use native.Mathlib.Omega.{arith}
 use lib.ListN.{length, getD, length-map, List·getD-map}
 use borrow.Author.Tests.{leb-true, le-leb}
-use Rattle.ring.specs.Lists.{In, without, behind, ahead, decide, without-gone, behind-none}
-use Rattle.ring.specs.Rings.{Head, Link, Rings, kind, next-place}
-use Rattle.ring.specs.Table.{unlinked, linkedBehind, linkedBefore}
-use Rattle.ring.specs.Stores.{sucs, pres, suc-at}
-use Rattle.ring.specs.Spell.{spells-cong, spells-unlinked, spells-behind, spells-before}
-use Rattle.ring.specs.Spell as ring
+use Rattle.rings.specs.Lists.{In, without, behind, ahead, decide, without-gone, behind-none}
+use Rattle.rings.specs.Rings.{Head, Link, Rings, kind, next-place}
+use Rattle.rings.specs.Table.{unlinked, linkedBehind, linkedBefore}
+use Rattle.rings.specs.Stores.{sucs, pres, suc-at}
+use Rattle.rings.specs.Spell.{spells-cong, spells-unlinked, spells-behind, spells-before}
+use Rattle.rings.specs.Spell as ring
 use Rattle.model.specs.Tables.{setHead, membersOf, SpellsSets}
 use Rattle.sets.specs.Sets.{onSets, outSets, putBehind, putAhead, followSets, precedeSets}
 use Rattle.sets.specs.Procedures.{followed, preceded}

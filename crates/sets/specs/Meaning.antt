@@ -8,7 +8,7 @@ use native.Mathlib.Omega.{arith}
 use lib.Dec.{leb, ltb}
 use lib.ListN.{length}
 use borrow.Author.Tests.{leb-true, ltb-true, lt-leb}
-use Rattle.ring.specs.Rings.{Head, Link}
+use Rattle.rings.specs.Rings.{Head, Link}
 use Rattle.counts.specs.declared.Counts.{Counts}
 use Rattle.counts.specs.Counts.{total, isHead, isLink, isLinkage, both}
 use Rattle.model.specs.declared.answer.Answer.{Answer}

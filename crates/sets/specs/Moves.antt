@@ -5,7 +5,7 @@ use mathlib.Core.Logic.{_≢_}
 use mathlib.Core.List.{List}
 use lib.ListN.{getD}
 use borrow.Author.Tests.{eq-eqb, ne-eqb}
-use Rattle.ring.specs.Table.{unlinked, linkedBehind, linkedBefore}
+use Rattle.rings.specs.Table.{unlinked, linkedBehind, linkedBefore}
 use Rattle.sets.specs.Procedures.{followOn, followed, precedeOn, preceded, clearing, cleared}
 
 -- ---- follow and precede, once x is out

@@ -8,8 +8,8 @@ use native.Mathlib.Omega.{arith}
 use native.Mathlib.Nat.{not-suc-le-zero}
 use lib.ListN.{length, getD}
 use borrow.Author.Tests.{ne-eqb}
-use Rattle.ring.specs.Lists.{In, ahead, test}
-use Rattle.ring.specs.Tabulate.{has, has-in, in-has}
+use Rattle.rings.specs.Lists.{In, ahead, test}
+use Rattle.rings.specs.Tabulate.{has, has-in, in-has}
 use Rattle.sets.specs.Sets.{onSets, whereIn}
 
 pub length-on : (f : ℕ → List ℕ → List ℕ) (n : ℕ) (ls : List (List ℕ)) → length (onSets f n ls) ≡ length ls

@@ -5,8 +5,8 @@ use mathlib.Core.Bool.{Bool}
 use mathlib.Core.List.{List}
 use lib.Dec.{eqb, leb}
 use lib.ListN.{getD}
-use Rattle.ring.specs.Lists.{if_then_else_}
-use Rattle.ring.specs.Table.{unlinked, linkedBehind, linkedBefore, counted}
+use Rattle.rings.specs.Lists.{if_then_else_}
+use Rattle.rings.specs.Table.{unlinked, linkedBehind, linkedBefore, counted}
 
 -- procedure follow(X): "if X =/= none then begin if X.SUC =/= none then begin PRED :- X; .."
 unfoldable pub followOn : ℕ → ℕ → ℕ → List ℕ → List ℕ

@@ -6,8 +6,8 @@ use mathlib.Core.List.{List}
 use native.Mathlib.Omega.{arith}
 use lib.Dec.{eqb, leb, ltb}
 use borrow.Author.Tests.{eqb-true, leb-true, le-leb, ne-eqb, not-true, not-false}
-use Rattle.ring.specs.Lists.{clash}
-use Rattle.ring.specs.Table.{Sound, Made}
+use Rattle.rings.specs.Lists.{clash}
+use Rattle.rings.specs.Table.{Sound, Made}
 use Rattle.counts.specs.declared.Counts.{Counts}
 use Rattle.counts.specs.declared.Refusal.the-variants.{Operand}
 use Rattle.counts.specs.Counts.{total, isHead, isLink, isLinkage, both}

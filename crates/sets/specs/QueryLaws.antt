@@ -6,12 +6,12 @@ use mathlib.Core.List.{List, [], _∷_, _++_}
 use native.Mathlib.Omega.{arith}
 use lib.ListN.{length, getD}
 use borrow.Author.Tests.{eq-eqb, ne-eqb, le-leb, lt-leb, leb-true, leb-false}
-use Rattle.ring.specs.Lists.{In, decide}
-use Rattle.ring.specs.Distinct.{Dist}
-use Rattle.ring.specs.Chain.{Chain, prev-in}
-use Rattle.ring.specs.Rings.{Head, Rings, kind, rings-dist, rings-apart, not-own, apart}
-use Rattle.ring.specs.Stores.{sucs, pres, suc-at}
-use Rattle.ring.specs.Spell.{spells-counted}
+use Rattle.rings.specs.Lists.{In, decide}
+use Rattle.rings.specs.Distinct.{Dist}
+use Rattle.rings.specs.Chain.{Chain, prev-in}
+use Rattle.rings.specs.Rings.{Head, Rings, kind, rings-dist, rings-apart, not-own, apart}
+use Rattle.rings.specs.Stores.{sucs, pres, suc-at}
+use Rattle.rings.specs.Spell.{spells-counted}
 use Rattle.model.specs.Tables.{setHead, membersOf, SpellsSets}
 use Rattle.sets.specs.Sets.{nextIn, prevIn, whereIn, sucSets, predSets, noLinks}
 use Rattle.sets.specs.Procedures.{linkOr, sucOf, predOf, emptyOf, cardinalOf}

@@ -4,8 +4,8 @@ use mathlib.Core.Bool.{Bool, true, false}
 use mathlib.Core.List.{List, [], _∷_, _++_, map}
 use lib.Dec.{eqb}
 use lib.ListN.{set}
-use Rattle.ring.specs.Lists.{if_then_else_, without, behind, ahead}
-use Rattle.ring.specs.Tabulate.{has}
+use Rattle.rings.specs.Lists.{if_then_else_, without, behind, ahead}
+use Rattle.rings.specs.Tabulate.{has}
 
 -- f done to each list, with the number of its head; the list of head 1 comes first
 abbrev pub onSets : (ℕ → List ℕ → List ℕ) → ℕ → List (List ℕ) → List (List ℕ)

@@ -3,7 +3,7 @@ use Prim.Native.Nat.{ℕ, zero, suc, _+_, _-_, _≤_, _<_}
 use mathlib.Core.Path.{_≡_, refl, sym, ap, subst, _∙_}
 use mathlib.Core.Bool.{Bool, true, false, _&&_}
 use native.Mathlib.Omega.{arith}
-use Rattle.ring.specs.Lists.{decide}
+use Rattle.rings.specs.Lists.{decide}
 use Rattle.counts.specs.Counts.{both}
 
 -- the test holds of each of 1 to n

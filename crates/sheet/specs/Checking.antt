@@ -6,7 +6,7 @@ use mathlib.Core.List.{List}
 use lib.Dec.{leb, eqb}
 use lib.ListN.{length}
 use borrow.Author.Tests.{le-leb, lt-leb, eqb-true}
-use Rattle.ring.specs.Lists.{test, clash}
+use Rattle.rings.specs.Lists.{test, clash}
 use Rattle.counts.specs.Counts.{inLimits, madeOf, both, made-allowed, allowed-limits}
 use Rattle.counts.specs.declared.Counts.{Counts}
 use Rattle.counts.specs.declared.CountsMade.{CountsMade}

@@ -7,7 +7,7 @@ use native.Mathlib.Omega.{arith}
 use lib.Dec.{leb, eqb}
 use lib.IntN.{ℤ, pos, negsuc, natAbs}
 use borrow.Author.Tests.{leb-true, eqb-true, ne-eqb}
-use Rattle.ring.specs.Lists.{test, clash}
+use Rattle.rings.specs.Lists.{test, clash}
 use Rattle.counts.specs.Counts.{Allowed, total, both}
 use Rattle.counts.specs.declared.Counts.{Counts}
 use Rattle.sheet.specs.AllTo.{allTo, all-at}

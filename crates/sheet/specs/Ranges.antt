@@ -10,7 +10,7 @@ use borrow.Author.Tests.{leb-true, eqb-true}
 use Rattle.counts.specs.Counts.{Allowed, inLimits, both, limits-allowed}
 use Rattle.counts.specs.declared.Refusal.{Refusal}
 use Rattle.counts.specs.declared.Refusal.the-variants.{Layout}
-use Rattle.ring.specs.Tabulate.{listed-at, length-listed}
+use Rattle.rings.specs.Tabulate.{listed-at, length-listed}
 use Rattle.sheet.specs.AllTo.{all-at}
 use Rattle.sheet.specs.Sheet.{countsOf, recordsOf, startOffset, startAt, recordOffset, recordAt, sheetOf}
 use Rattle.sheet.specs.Accepted.{headerOf, lengthOf, sizeFine, sized, recordFine, padFine, startsTo, layoutFine, recordsTo, accepted, checked}

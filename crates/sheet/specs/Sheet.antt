@@ -2,7 +2,7 @@
 use Prim.Native.Nat.{ℕ, _+_, _*_, _-_}
 use mathlib.Core.List.{List}
 use Rattle.counts.specs.declared.Counts.{Counts}
-use Rattle.ring.specs.Tabulate.{listed}
+use Rattle.rings.specs.Tabulate.{listed}
 use Rattle.words.specs.Words.{u8At, u32At, i64At}
 use Rattle.sheet.specs.declared.records.Record.{Record}
 

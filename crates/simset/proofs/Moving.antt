@@ -5,7 +5,7 @@ use mathlib.Core.Logic.{_≢_}
 use mathlib.Core.List.{List}
 use native.Mathlib.Omega.{arith}
 use lib.ListN.{getD}
-use Rattle.ring.specs.Table.{Sound, Made, unlinked, linkedBehind, linkedBefore}
+use Rattle.rings.specs.Table.{Sound, Made, unlinked, linkedBehind, linkedBefore}
 use Rattle.sets.specs.Procedures.{followOn, followed, precedeOn, preceded, clearing, cleared}
 use Rattle.sets.specs.Moves.{follow-none, follow-off, follow-on, precede-none, precede-off, precede-on, followed-is, preceded-is, clearing-none, clearing-done, clearing-on, cleared-is}
 

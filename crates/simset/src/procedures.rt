@@ -5,7 +5,7 @@ use ring::unlink;
 use ring::wide;
 ghost use mathlib.Core.Path.{_≡_};
 ghost use Prim.Native.Nat.{_<_};
-ghost use Rattle.ring.specs.Table.{Sound, Made};
+ghost use Rattle.rings.specs.Table.{Sound, Made};
 ghost use Rattle.sets.specs.Procedures.{followed, preceded, cleared, linkOr};
 
 // Takes x out, then puts it behind y if y is on a ring.

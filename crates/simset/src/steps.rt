@@ -7,7 +7,7 @@ use ring::unlink;
 use ring::wide;
 ghost use mathlib.Core.Path.{_≡_};
 ghost use Prim.Native.Nat.{_+_};
-ghost use Rattle.ring.specs.Table.{Sound};
+ghost use Rattle.rings.specs.Table.{Sound};
 ghost use Rattle.counts.specs.Counts.{total, isHead, isLinkage};
 ghost use Rattle.sets.specs.Calls.{orNone, outStep, followStep, precedeStep, intoStep, clearStep};
 ghost use Rattle.sets.specs.Promise.{Moved};

@@ -8,7 +8,7 @@ use native.Mathlib.Numerals.{add-one}
 use lib.Dec.{eqb}
 use lib.ListN.{getD, set}
 use borrow.Author.Tests.{eq-eqb, ne-eqb, le-leb, lt-leb, lt-ltb, le-ltb}
-use Rattle.ring.specs.Table.{Sound, Made, unlinked, linkedBehind}
+use Rattle.rings.specs.Table.{Sound, Made, unlinked, linkedBehind}
 use Rattle.counts.specs.Counts.{limit}
 use Rattle.counts.specs.declared.Refusal.the-variants.{NoNotice, TimeLimit}
 use Rattle.model.specs.declared.answer.Answer.{Answer}

@@ -13,7 +13,7 @@ use model::answer::Answer;
 use ring::wide;
 ghost use mathlib.Core.Path.{_≡_};
 ghost use Prim.Native.Nat.{_+_, _<_, _≤_};
-ghost use Rattle.ring.specs.Table.{Sound};
+ghost use Rattle.rings.specs.Table.{Sound};
 ghost use Rattle.counts.specs.Counts.{limit};
 ghost use Rattle.sequencing.specs.Procedures.{placeFor, scheduled, activated};
 ghost use Rattle.sequencing.specs.Plain.{above};

@@ -7,7 +7,7 @@ use ring::wide;
 ghost use mathlib.Core.Path.{_≡_};
 ghost use Prim.Native.Nat.{_+_, _-_, _<_, _≤_};
 ghost use lib.ListN.{getD};
-ghost use Rattle.ring.specs.Table.{Sound};
+ghost use Rattle.rings.specs.Table.{Sound};
 ghost use Rattle.sequencing.specs.Procedures.{found, dropOn, putOn};
 ghost use Rattle.sequencing.specs.Promise.{sqs, Left, Place, Read, Stored, Lone, First, capped};
 

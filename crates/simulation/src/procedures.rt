@@ -12,7 +12,7 @@ use counts::TIME_LIMIT;
 use model::answer::Answer;
 use ring::wide;
 ghost use Prim.Native.Nat.{_<_, _≤_};
-ghost use Rattle.ring.specs.Table.{Sound};
+ghost use Rattle.rings.specs.Table.{Sound};
 ghost use Rattle.counts.specs.Counts.{limit};
 ghost use Rattle.sequencing.specs.Procedures.{heldAt, held, passivated, cancelled, finishedMarks};
 ghost use Rattle.sequencing.specs.Promise.{sqs, Left, Answers, AnswersMarked, First, Led};

@@ -13,7 +13,7 @@ use simset::procedures::precede;
 use simset::steps::head_or_none;
 ghost use mathlib.Core.Path.{_≡_};
 ghost use Prim.Native.Nat.{_+_, _-_, _<_, _≤_};
-ghost use Rattle.ring.specs.Table.{Sound};
+ghost use Rattle.rings.specs.Table.{Sound};
 ghost use Rattle.counts.specs.Counts.{isProcess, total};
 ghost use Rattle.sets.specs.Calls.{orNone};
 ghost use Rattle.sequencing.specs.Plain.{timedNeed};

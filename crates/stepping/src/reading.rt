@@ -10,7 +10,7 @@ ghost use Prim.Native.Nat.{_+_, _≤_, _<_};
 ghost use mathlib.Core.Bool.{_&&_};
 ghost use lib.Dec.{eqb};
 ghost use lib.ListN.{length, getD};
-ghost use Rattle.ring.specs.Table.{Sound};
+ghost use Rattle.rings.specs.Table.{Sound};
 ghost use Rattle.counts.specs.Counts.{total};
 ghost use Rattle.sets.specs.Procedures.{emptyOf};
 ghost use Rattle.sequencing.specs.Promise.{Judged};

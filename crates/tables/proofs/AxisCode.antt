@@ -8,8 +8,8 @@ use native.Mathlib.Omega.{arith}
 use lib.Dec.{eqb, leb}
 use lib.ListN.{getD}
 use borrow.Author.Tests.{eq-eqb, ne-eqb, not-true, not-false}
-use Rattle.ring.specs.Stores.{sucs, pres, suc-at}
-use Rattle.ring.specs.Judge.{idle, ringsFine}
+use Rattle.rings.specs.Stores.{sucs, pres, suc-at}
+use Rattle.rings.specs.Judge.{idle, ringsFine}
 use Rattle.counts.specs.Counts.{limit}
 use Rattle.model.specs.Judge.{timeFine, markFine, placesFine, axisFine}
 use Rattle.model.specs.Tests.{time-idle, time-past, time-last, time-next, places-none, places-time, places-mark, places-on}

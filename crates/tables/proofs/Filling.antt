@@ -8,10 +8,10 @@ use native.Mathlib.Numerals.{add-one}
 use lib.ListN.{length, take, set, length-set}
 use lib.Seq.{take-all, take-suc-set}
 use borrow.Author.Tests.{not-true, not-false}
-use Rattle.ring.specs.Lists.{zeros}
-use Rattle.ring.specs.Table.{Sound, selfLinked, linkedBefore}
-use Rattle.ring.specs.Spell.{spells-sound}
-use Rattle.ring.specs.Empty.{length-zeros}
+use Rattle.rings.specs.Lists.{zeros}
+use Rattle.rings.specs.Table.{Sound, selfLinked, linkedBefore}
+use Rattle.rings.specs.Spell.{spells-sound}
+use Rattle.rings.specs.Empty.{length-zeros}
 use Rattle.counts.specs.declared.Counts.{Counts}
 use Rattle.counts.specs.declared.Refusal.the-variants.{Size}
 use Rattle.model.specs.declared.verdict.Verdict.the-variants.{Fine, Refused}

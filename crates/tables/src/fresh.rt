@@ -9,7 +9,7 @@ use ring::wide;
 ghost use mathlib.Core.Path.{_≡_};
 ghost use Prim.Native.Nat.{_+_, _*_, _<_, _≤_};
 ghost use lib.ListN.{length};
-ghost use Rattle.ring.specs.Lists.{zeros};
+ghost use Rattle.rings.specs.Lists.{zeros};
 ghost use Rattle.model.specs.Tables.{Sized};
 ghost use Rattle.model.specs.Fresh.{freshHeads, freshAxis, freshTables, freshed};
 

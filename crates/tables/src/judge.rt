@@ -9,7 +9,7 @@ use ring::wide;
 ghost use mathlib.Core.Path.{_≡_};
 ghost use Prim.Native.Nat.{_+_, _*_, _<_, _≤_};
 ghost use lib.ListN.{length};
-ghost use Rattle.ring.specs.Stores.{sucs, pres};
+ghost use Rattle.rings.specs.Stores.{sucs, pres};
 ghost use Rattle.model.specs.Tables.{Sized};
 ghost use Rattle.model.specs.Judge.{linksFine, timeFine, markFine, placesFine, axisFine, tablesFine, lengthsFine, judged, positionsFine, positionsJudged};
 ghost use Rattle.model.specs.Tests.{Three};

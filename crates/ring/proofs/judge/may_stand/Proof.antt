@@ -1,5 +1,5 @@
 use mathlib.Core.Path.{sym}
-use Rattle.ring.specs.RingWalk.{allowed-head, allowed-low, allowed-link}
+use Rattle.rings.specs.RingWalk.{allowed-head, allowed-low, allowed-link}
 use Rattle.ring.proofs.judge.may_stand.Statement.{statement}
 use Rattle.ring.proofs.judge.may_stand.Tie as tie
 

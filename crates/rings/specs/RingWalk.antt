@@ -8,9 +8,9 @@ use native.Mathlib.Omega.{arith}
 use lib.Dec.{ltb}
 use lib.ListN.{length}
 use borrow.Author.Tests.{eq-eqb, ne-eqb, lt-ltb, le-ltb}
-use Rattle.ring.specs.Lists.{if_then_else_, In, decide, below, clash}
-use Rattle.ring.specs.Chain.{Edge, Chain}
-use Rattle.ring.specs.Judge.{allowed, step, walk}
+use Rattle.rings.specs.Lists.{if_then_else_, In, decide, below, clash}
+use Rattle.rings.specs.Chain.{Edge, Chain}
+use Rattle.rings.specs.Judge.{allowed, step, walk}
 
 -- ---- the clauses
 

@@ -4,8 +4,8 @@ use mathlib.Core.Path.{_≡_, sym, ap, _∙_}
 use mathlib.Core.Logic.{_≢_, _⊎_, inl, inr, ⊎-elim}
 use mathlib.Core.List.{List, [], _∷_}
 use borrow.Author.Tests.{eq-eqb, ne-eqb}
-use Rattle.ring.specs.Lists.{In, without, behind, ahead, decide}
-use Rattle.ring.specs.Distinct.{Dist}
+use Rattle.rings.specs.Lists.{In, without, behind, ahead, decide}
+use Rattle.rings.specs.Distinct.{Dist}
 
 -- a is followed by b
 pub record Edge (S P : ℕ → ℕ) (a b : ℕ) : Type 0 where

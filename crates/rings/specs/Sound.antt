@@ -6,8 +6,8 @@ use native.Mathlib.Omega.{arith}
 use lib.ListN.{length, getD, set, length-set}
 use lib.Seq.{getD-set-same, getD-set-other, set-out}
 use borrow.Author.Tests.{eq-eqb, ne-eqb}
-use Rattle.ring.specs.Lists.{decide, below}
-use Rattle.ring.specs.Table.{Sound, Made, unlinked, linkedBehind, linkedBefore}
+use Rattle.rings.specs.Lists.{decide, below}
+use Rattle.rings.specs.Table.{Sound, Made, unlinked, linkedBehind, linkedBefore}
 
 sound-set : (m : ℕ) (t : List ℕ) (i v : ℕ) → Sound m t → v < m → Sound m (set t i v)
 sound-set m t i v s l =

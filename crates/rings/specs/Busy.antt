@@ -7,9 +7,9 @@ use mathlib.Core.List.{[], _∷_}
 use native.Mathlib.Omega.{arith}
 use lib.Dec.{eqb}
 use borrow.Author.Tests.{eq-eqb, ne-eqb, eqb-true}
-use Rattle.ring.specs.Lists.{In, decide, test, clash}
-use Rattle.ring.specs.Distinct.{Dist}
-use Rattle.ring.specs.Judge.{idle, busy}
+use Rattle.rings.specs.Lists.{In, decide, test, clash}
+use Rattle.rings.specs.Distinct.{Dist}
+use Rattle.rings.specs.Judge.{idle, busy}
 
 module _ (S P : ℕ → ℕ) where
   pub idle-not : (x : ℕ) → S x ≢ 0 → idle S P x ≡ false

@@ -5,7 +5,7 @@ use mathlib.Core.List.{List}
 use lib.Dec.{eqb}
 use lib.ListN.{length, getD, set}
 use borrow.Author.Tests.{eq-eqb, ne-eqb}
-use Rattle.ring.specs.Lists.{if_then_else_}
+use Rattle.rings.specs.Lists.{if_then_else_}
 
 -- what the code needs to be safe: two halves of m words, and every word names a place
 pub record Sound (m : ℕ) (t : List ℕ) : Type 0 where

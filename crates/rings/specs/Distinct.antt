@@ -6,7 +6,7 @@ use mathlib.Core.List.{List, [], _∷_, _++_}
 use native.Mathlib.Omega.{arith}
 use lib.ListN.{length}
 use borrow.Author.Tests.{eq-eqb, ne-eqb}
-use Rattle.ring.specs.Lists.{In, without, decide, inside, in-without, without-in, without-none, without-gone}
+use Rattle.rings.specs.Lists.{In, without, decide, inside, in-without, without-in, without-none, without-gone}
 
 -- no number stands twice
 abbrev pub Dist : List ℕ → Type 0

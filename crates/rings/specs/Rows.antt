@@ -9,14 +9,14 @@ use native.Mathlib.Nat.{not-suc-le-zero}
 use lib.Dec.{eqb}
 use lib.ListN.{length, getD, length-append}
 use borrow.Author.Tests.{eq-eqb, ne-eqb, eqb-true}
-use Rattle.ring.specs.Lists.{In, clash}
-use Rattle.ring.specs.Chain.{Chain, next-in}
-use Rattle.ring.specs.Unique.{suffix, same-end, dist-chain}
-use Rattle.ring.specs.Rings.{Head, Link, apart}
-use Rattle.ring.specs.Judge.{walk, closed, idle}
-use Rattle.ring.specs.Distinct.{Dist, joined, in-left, in-right, in-either, dist-append}
-use Rattle.ring.specs.Busy.{idle-not}
-use Rattle.ring.specs.RingWalk.{Passed, walk-chain, chain-walk}
+use Rattle.rings.specs.Lists.{In, clash}
+use Rattle.rings.specs.Chain.{Chain, next-in}
+use Rattle.rings.specs.Unique.{suffix, same-end, dist-chain}
+use Rattle.rings.specs.Rings.{Head, Link, apart}
+use Rattle.rings.specs.Judge.{walk, closed, idle}
+use Rattle.rings.specs.Distinct.{Dist, joined, in-left, in-right, in-either, dist-append}
+use Rattle.rings.specs.Busy.{idle-not}
+use Rattle.rings.specs.RingWalk.{Passed, walk-chain, chain-walk}
 
 -- the n heads from g, and the links lo .. hi - 1
 pub record Layout (m : ℕ) (isHead : ℕ → Bool) (n g lo hi : ℕ) : Type 0 where

@@ -10,7 +10,7 @@ use lib.Dec.{eqb}
 use lib.ListN.{length, getD}
 use lib.Seq.{ext-getD}
 use borrow.Author.Tests.{eq-eqb, ne-eqb}
-use Rattle.ring.specs.Lists.{if_then_else_, In, decide, clash}
+use Rattle.rings.specs.Lists.{if_then_else_, In, decide, clash}
 
 -- the values of f at i, i + 1, .., n of them
 abbrev pub listed : {A : Type 0} → (ℕ → A) → ℕ → ℕ → List A

@@ -7,10 +7,10 @@ use mathlib.Core.Bool.{Bool, true, false}
 use mathlib.Core.List.{List, _∷_}
 use native.Mathlib.Omega.{arith}
 use lib.ListN.{length}
-use Rattle.ring.specs.Lists.{In, without, behind, decide, clash, in-without, without-in, without-none, in-behind, behind-old, behind-new}
-use Rattle.ring.specs.Distinct.{Dist, pigeon}
-use Rattle.ring.specs.Chain.{Chain, next-in, prev-in, Cut, cut-chain, Put, put-chain}
-use Rattle.ring.specs.Unique.{same-chain, suffix, same-end, dist-chain}
+use Rattle.rings.specs.Lists.{In, without, behind, decide, clash, in-without, without-in, without-none, in-behind, behind-old, behind-new}
+use Rattle.rings.specs.Distinct.{Dist, pigeon}
+use Rattle.rings.specs.Chain.{Chain, next-in, prev-in, Cut, cut-chain, Put, put-chain}
+use Rattle.rings.specs.Unique.{same-chain, suffix, same-end, dist-chain}
 
 pub record Head (m : ℕ) (isHead : ℕ → Bool) (h : ℕ) : Type 0 where
   pub some : 0 < h

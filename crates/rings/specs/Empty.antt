@@ -6,11 +6,11 @@ use mathlib.Core.Bool.{Bool}
 use mathlib.Core.List.{List, []}
 use native.Mathlib.Omega.{arith}
 use lib.ListN.{length, getD, length-set, length-replicate, getD-replicate, List·getD-eq-default}
-use Rattle.ring.specs.Lists.{below, zeros}
-use Rattle.ring.specs.Rings.{Head, Link}
-use Rattle.ring.specs.Table.{selfLinked}
-use Rattle.ring.specs.Stores.{sucs, pres, stores}
-use Rattle.ring.specs.Spell.{Spells}
+use Rattle.rings.specs.Lists.{below, zeros}
+use Rattle.rings.specs.Rings.{Head, Link}
+use Rattle.rings.specs.Table.{selfLinked}
+use Rattle.rings.specs.Stores.{sucs, pres, stores}
+use Rattle.rings.specs.Spell.{Spells}
 
 -- heads that follow themselves, links with two zeros: every list is empty
 pub spells-empty : (m : ℕ) (isHead : ℕ → Bool) (t : List ℕ) → length t ≡ 2 * m

@@ -6,12 +6,12 @@ use mathlib.Core.Bool.{Bool, true, false}
 use mathlib.Core.List.{List, []}
 use native.Mathlib.Omega.{arith}
 use lib.ListN.{length, getD}
-use Rattle.ring.specs.Lists.{In, test, clash}
-use Rattle.ring.specs.Rings.{Head, Link, Rings}
-use Rattle.ring.specs.Judge.{idle, busy, closed, ringsFine}
-use Rattle.ring.specs.Distinct.{joined, fits, covers}
-use Rattle.ring.specs.Busy.{idle-zeros, zeros-idle, busy-place, place-busy, busy-dist}
-use Rattle.ring.specs.Rows.{Layout, Row, Rows, Closed, in-at, at-in, row-at, rows-of, rows-dist, rows-busy, closed-rows, rows-closed}
+use Rattle.rings.specs.Lists.{In, test, clash}
+use Rattle.rings.specs.Rings.{Head, Link, Rings}
+use Rattle.rings.specs.Judge.{idle, busy, closed, ringsFine}
+use Rattle.rings.specs.Distinct.{joined, fits, covers}
+use Rattle.rings.specs.Busy.{idle-zeros, zeros-idle, busy-place, place-busy, busy-dist}
+use Rattle.rings.specs.Rows.{Layout, Row, Rows, Closed, in-at, at-in, row-at, rows-of, rows-dist, rows-busy, closed-rows, rows-closed}
 
 module _ (S P : ℕ → ℕ) (lo hi n g : ℕ) where
   pub fine-not : idle S P 0 ≡ false → ringsFine S P lo hi n g ≡ false

@@ -6,8 +6,8 @@ use mathlib.Core.List.{List}
 use native.Mathlib.Omega.{arith}
 use lib.ListN.{length, getD, set, take, length-set}
 use lib.Seq.{getD-take, getD-set-same, getD-set-other, take-set-le, take-set-lt}
-use Rattle.ring.specs.Table.{cut, join, joinBefore}
-use Rattle.ring.specs.Chain.{Cut, Put}
+use Rattle.rings.specs.Table.{cut, join, joinBefore}
+use Rattle.rings.specs.Chain.{Cut, Put}
 
 -- the two halves: the successor of i, and its predecessor
 abbrev pub sucs : ℕ → List ℕ → ℕ → ℕ

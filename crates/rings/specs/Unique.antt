@@ -5,9 +5,9 @@ use mathlib.Core.Logic.{inl, inr}
 use mathlib.Core.List.{List, [], _∷_}
 use native.Mathlib.Omega.{arith}
 use lib.ListN.{length}
-use Rattle.ring.specs.Lists.{In}
-use Rattle.ring.specs.Distinct.{Dist}
-use Rattle.ring.specs.Chain.{Chain}
+use Rattle.rings.specs.Lists.{In}
+use Rattle.rings.specs.Distinct.{Dist}
+use Rattle.rings.specs.Chain.{Chain}
 
 module _ (S P : ℕ → ℕ) where
   -- two chains from a to b are one

@@ -7,12 +7,12 @@ use mathlib.Core.List.{List, [], _∷_}
 use native.Mathlib.Omega.{arith}
 use lib.ListN.{length, getD, length-set, List·getD-eq-default}
 use borrow.Author.Tests.{eq-eqb, ne-eqb}
-use Rattle.ring.specs.Lists.{In, without, behind, ahead, decide, below}
-use Rattle.ring.specs.Distinct.{Dist}
-use Rattle.ring.specs.Chain.{Chain, forth, back, prev-in, no-self, behind-ahead}
-use Rattle.ring.specs.Rings.{Head, Link, Rings, apart, kind, rings-cong, on-place, next-on, next-place, prev-place, not-own, rings-dist, rings-apart, rings-few, rings-one, idle-rings, cut-rings, put-rings}
-use Rattle.ring.specs.Table.{Sound, cut, join, joinBefore, unlinked, linkedBehind, linkedBefore, steps, counted, steps-here, steps-on}
-use Rattle.ring.specs.Stores.{sucs, pres, suc-at, cut-is, cut-x, join-is, before-is}
+use Rattle.rings.specs.Lists.{In, without, behind, ahead, decide, below}
+use Rattle.rings.specs.Distinct.{Dist}
+use Rattle.rings.specs.Chain.{Chain, forth, back, prev-in, no-self, behind-ahead}
+use Rattle.rings.specs.Rings.{Head, Link, Rings, apart, kind, rings-cong, on-place, next-on, next-place, prev-place, not-own, rings-dist, rings-apart, rings-few, rings-one, idle-rings, cut-rings, put-rings}
+use Rattle.rings.specs.Table.{Sound, cut, join, joinBefore, unlinked, linkedBehind, linkedBefore, steps, counted, steps-here, steps-on}
+use Rattle.rings.specs.Stores.{sucs, pres, suc-at, cut-is, cut-x, join-is, before-is}
 
 pub record Spells (m : ℕ) (isHead : ℕ → Bool) (L : ℕ → List ℕ) (t : List ℕ) : Type 0 where
   pub two : length t ≡ 2 * m

@@ -6,11 +6,11 @@ use mathlib.Core.Bool.{Bool}
 use mathlib.Core.List.{List, [], _∷_}
 use native.Mathlib.Omega.{arith}
 use lib.Seq.{ext-getD}
-use Rattle.ring.specs.Lists.{In, below}
-use Rattle.ring.specs.Chain.{Chain}
-use Rattle.ring.specs.Rings.{Head, Link, Rings, kind}
-use Rattle.ring.specs.Stores.{sucs, pres, suc-at}
-use Rattle.ring.specs.Spell.{Spells}
+use Rattle.rings.specs.Lists.{In, below}
+use Rattle.rings.specs.Chain.{Chain}
+use Rattle.rings.specs.Rings.{Head, Link, Rings, kind}
+use Rattle.rings.specs.Stores.{sucs, pres, suc-at}
+use Rattle.rings.specs.Spell.{Spells}
 
 module _ (S P S′ P′ : ℕ → ℕ) where
   -- a chain's list tells what follows each of its places, and what comes before
