@@ -5,8 +5,8 @@ use native.Mathlib.Omega.{arith}
 use lib.ListN.{length, take, replicate}
 use lib.IntN.{ℤ, pos}
 use Rattle.runs.specs.Parts.{part-length}
-use Rattle.calls.specs.declared.head.Sizes.{Sizes}
-use Rattle.calls.specs.Contents.{ModelFits, RunFits, Served}
+use Rattle.served.specs.declared.head.Sizes.{Sizes}
+use Rattle.served.specs.Contents.{ModelFits, RunFits, Served}
 
 -- a part of k entries, for a table of k
 in-part : {A : Type 0} (j k n : ℕ) (v : A) → k ≡ j → j ≤ n → j ≤ length (take k (replicate n v))

@@ -1,18 +1,9 @@
 // A program for tests: reads requests, makes each call on the tables that a request brings, and writes a response for each.
-mod accum_calls;
 mod answer;
-mod contents;
-mod copying;
 mod flow;
-mod head;
-mod judge_call;
-mod put;
 mod respond;
 mod run_calls;
-mod sequencing_calls;
 mod serve;
-mod set_calls;
-mod sheet_call;
 
 use serve::serve;
 

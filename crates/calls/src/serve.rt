@@ -6,17 +6,17 @@ use crate::flow::make_room;
 use crate::flow::started;
 use crate::flow::stopped;
 use crate::flow::write_out;
-use crate::head::HEAD_BYTES;
-use crate::head::Head;
-use crate::head::contents_bytes;
-use crate::head::head_at;
-use crate::head::model_fits;
-use crate::head::run_fits;
 use crate::respond::respond;
+use served::head::HEAD_BYTES;
+use served::head::Head;
+use served::head::contents_bytes;
+use served::head::head_at;
+use served::head::model_fits;
+use served::head::run_fits;
 ghost use mathlib.Core.Path.{_≡_};
 ghost use mathlib.Core.Bool.{true};
 ghost use lib.ListN.{length};
-ghost use Rattle.calls.specs.Contents.{Served};
+ghost use Rattle.served.specs.Contents.{Served};
 ghost use Rattle.calls.specs.Flow.{Within};
 
 // Is the call known, and do its tables fit into the buffers?
