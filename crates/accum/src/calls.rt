@@ -1,10 +1,8 @@
 // The public calls of accum: lent the whole model, refusing in the order 1, 2, 3, 7. A refused call changes no word.
-use crate::flat::update_in;
 use crate::judge::judge_list;
 use crate::judge::list_fine;
 use crate::judge::number_fine;
 use crate::judge::time_of;
-use crate::update::updated;
 use accumulator::Accumulator;
 use accumulator::Kept;
 use accumulator::Updated;
@@ -13,6 +11,8 @@ use model::answer::Answer;
 use model::verdict::Verdict;
 use ring::wide;
 use tables::judge::judge_tables;
+use updating::flat::update_in;
+use updating::update::updated;
 ghost use mathlib.Core.Path.{_≡_};
 ghost use Prim.Native.Nat.{_≤_};
 ghost use Rattle.counts.specs.Counts.{limit};

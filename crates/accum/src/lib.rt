@@ -1,7 +1,4 @@
-// The code of the accumulators: the update by value, in a run's flat list, as public calls, and lent as structs.
+// The public calls of accum: on an accumulator by value, in a flat list, and lent as a struct or in a slice of structs.
 pub mod calls;
-pub mod flat;
 pub mod judge;
 pub mod lent;
-pub mod signed;
-pub mod update;

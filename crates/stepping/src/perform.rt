@@ -1,5 +1,4 @@
 // The call of a record whose operands are resolved, on judged tables.
-use accum::flat::update_in;
 use counts::Counts;
 use counts::Refusal;
 use model::answer::Answer;
@@ -15,6 +14,7 @@ use simulation::steps::finish;
 use simulation::steps::hold;
 use simulation::steps::passivate;
 use simulation::steps::wait;
+use updating::flat::update_in;
 ghost use mathlib.Core.Path.{_≡_};
 ghost use Rattle.counts.specs.Counts.{isHead};
 ghost use Rattle.model.specs.declared.answer.Answer.the-variants.{Done};

@@ -4,8 +4,8 @@ use Rattle.accumulator.specs.Signed.{kept}
 use Rattle.accumulator.specs.Update.{updatedOf}
 use Rattle.accumulator.specs.Flat.{in-to, in-not}
 use borrow.Author.Needs.{needs}
-use Rattle.accum.proofs.flat.update_in.Statement.{statement}
-use Rattle.accum.proofs.flat.update_in.Tie as tie
+use Rattle.updating.proofs.flat.update_in.Statement.{statement}
+use Rattle.updating.proofs.flat.update_in.Tie as tie
 
 wide-requires : tie.Need-wide-requires
 wide-requires c κs = search needs

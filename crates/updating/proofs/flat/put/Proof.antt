@@ -2,8 +2,8 @@ use lib.ListN.{length-set}
 use Rattle.accumulator.specs.Flat.{withWords}
 use borrow.Author.Needs.{needs}
 use native.Mathlib.Omega.{arith}
-use Rattle.accum.proofs.flat.put.Statement.{statement}
-use Rattle.accum.proofs.flat.put.Tie as tie
+use Rattle.updating.proofs.flat.put.Statement.{statement}
+use Rattle.updating.proofs.flat.put.Tie as tie
 
 mul-a : tie.Need-mul-a
 mul-a c = search needs

@@ -1,7 +1,7 @@
 use Rattle.accumulator.specs.Signed.{less-one-fits, less-one-cast, less-one-add, less-one-abs, same-cast}
 use borrow.Author.Needs.{needs}
-use Rattle.accum.proofs.signed.magnitude.Statement.{statement}
-use Rattle.accum.proofs.signed.magnitude.Tie as tie
+use Rattle.updating.proofs.signed.magnitude.Statement.{statement}
+use Rattle.updating.proofs.signed.magnitude.Tie as tie
 
 sub-result : tie.Need-sub-result
 sub-result c = less-one-fits (c .before .args .x) (c .before .fits .x) (c .if1 .taken)

@@ -3,8 +3,8 @@ use mathlib.Core.Path.{_≡_, refl, _∙_}
 use Rattle.accumulator.specs.Signed.{asks2, gives2, word, kept}
 use Rattle.accumulator.specs.Keeps.{since-fits, product-fits, sum-fits}
 use borrow.Author.Needs.{needs}
-use Rattle.accum.proofs.update.gathered.Statement.{statement}
-use Rattle.accum.proofs.update.gathered.Tie as tie
+use Rattle.updating.proofs.update.gathered.Statement.{statement}
+use Rattle.updating.proofs.update.gathered.Tie as tie
 
 signed-of-requires : tie.Need-signed-of-requires
 signed-of-requires c κs = search needs

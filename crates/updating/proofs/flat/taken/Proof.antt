@@ -1,7 +1,7 @@
 use Rattle.accumulator.specs.Flat.{wordsAt}
 use borrow.Author.Needs.{needs}
-use Rattle.accum.proofs.flat.taken.Statement.{statement}
-use Rattle.accum.proofs.flat.taken.Tie as tie
+use Rattle.updating.proofs.flat.taken.Statement.{statement}
+use Rattle.updating.proofs.flat.taken.Tie as tie
 
 mul-a : tie.Need-mul-a
 mul-a c = search needs

@@ -1,7 +1,7 @@
 use Rattle.accumulator.specs.Signed.{word, abs-word, sign-word, abs-add, fits-abs, asks2, gives2}
 use borrow.Author.Needs.{needs}
-use Rattle.accum.proofs.update.may_update.Statement.{statement}
-use Rattle.accum.proofs.update.may_update.Tie as tie
+use Rattle.updating.proofs.update.may_update.Statement.{statement}
+use Rattle.updating.proofs.update.may_update.Tie as tie
 use lib.IntN.{pos, natAbs, _+ℤ_}
 use lib.Signed.{ltZ}
 use lib.Dec.{leb}

@@ -5,8 +5,8 @@ use Rattle.accumulator.specs.Signed.{word, kept, asks2, gives2, ap2}
 use Rattle.accumulator.specs.Update.{mayUpdate, updated-not}
 use Rattle.accumulator.specs.Keeps.{stored-growable, rate-fits, stored-to}
 use borrow.Author.Needs.{needs}
-use Rattle.accum.proofs.update.updated.Statement.{statement}
-use Rattle.accum.proofs.update.updated.Tie as tie
+use Rattle.updating.proofs.update.updated.Statement.{statement}
+use Rattle.updating.proofs.update.updated.Tie as tie
 
 -- the test, of the number that was passed
 may : {v : Bool} (c : tie.After-may-update) → c .may-update .result ≡ v → mayUpdate (c .before .args .x) (c .before .args .time) (c .before .args .d) ≡ v

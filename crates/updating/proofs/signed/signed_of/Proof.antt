@@ -1,8 +1,8 @@
 use mir.Syntax.{w64}
 use mir.ValLaws.{toZ-pos}
 use borrow.Author.Needs.{needs}
-use Rattle.accum.proofs.signed.signed_of.Statement.{statement}
-use Rattle.accum.proofs.signed.signed_of.Tie as tie
+use Rattle.updating.proofs.signed.signed_of.Statement.{statement}
+use Rattle.updating.proofs.signed.signed_of.Tie as tie
 
 cast-result : tie.Need-cast-result
 cast-result c = search needs

@@ -1,0 +1,4 @@
+// The update of an accumulator: by value, and in a flat list of words as a run keeps it. Core functions: callers know the time.
+pub mod flat;
+pub mod signed;
+pub mod update;
