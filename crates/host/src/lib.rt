@@ -1,10 +1,10 @@
 // The edge for a C host: one function, with a fresh run's tables in local arrays.
 use counts::Refusal;
+use layout::check::check;
 use ring::wide;
 use runner::answer::number;
 use runner::start;
 use runs::Ran;
-use sheet::check::check;
 use sheet::header::Checked;
 use sheet::header::Header;
 ghost use mathlib.Core.Path.{_≡_};

@@ -5,8 +5,8 @@ mod show;
 
 use crate::output::say;
 use crate::show::show;
+use layout::check::check;
 use libc::STDIN_FILENO;
-use sheet::check::check;
 use sheet::header::Checked;
 
 // The sheet, or that it is refused: "sheet refused 8".

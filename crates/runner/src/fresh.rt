@@ -1,8 +1,8 @@
 // The tables of a fresh run: the fresh model, the sheet's starts, zeros.
 use counts::Refusal;
+use layout::check::check;
 use model::verdict::Verdict;
 use ring::wide;
-use sheet::check::check;
 use sheet::header::Checked;
 use sheet::header::Header;
 use sheet::records::start_at;

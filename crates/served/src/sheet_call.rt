@@ -2,7 +2,7 @@
 use crate::reply::Reply;
 use crate::reply::accepted;
 use crate::reply::refused;
-use sheet::check::check;
+use layout::check::check;
 use sheet::header::Checked;
 
 pub(crate) fn has(call: u32) -> bool {

@@ -1,6 +1,4 @@
-// Model sheets: the layout check, and records read where they lie.
-pub mod check;
-pub mod fields;
+// Model sheets: what their bytes say and which are accepted, in specs/; records read where they lie.
 pub mod header;
 pub mod operations;
 pub mod records;

@@ -19,7 +19,7 @@ pub struct Record {
 }
 
 // Where the bytes of record r begin.
-pub(crate) fn record_offset(processes: u32, r: u32) -> usize
+pub fn record_offset(processes: u32, r: u32) -> usize
     requires { ⌜ 1 ≤ r ⌝ }
     ensures { λ i. ⌜ i ≡ recordOffset processes r ⌝ }
 {
@@ -27,7 +27,7 @@ pub(crate) fn record_offset(processes: u32, r: u32) -> usize
 }
 
 // The record whose 24 bytes begin at i.
-pub(crate) fn record_from(sheet: &[u8], i: usize) -> Record
+pub fn record_from(sheet: &[u8], i: usize) -> Record
     requires { ⌜ i + 24 ≤ length (now sheet) ⌝ }
     ensures { λ q. ⌜ q ≡ recordFrom (now (sheet .entry)) i ⌝ }
 {
