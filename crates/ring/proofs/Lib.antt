@@ -1,3 +1,2 @@
 -- laws that belong to no one function
 pub mod Counting
-pub mod Judging

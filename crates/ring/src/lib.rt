@@ -1,7 +1,5 @@
 // Two-way rings in a lent table of 2 × m words: the successor of i at i, its predecessor at m + i, 0 for none.
 // Core functions: callers have judged the table, or made it by these functions.
-pub mod judge;
-
 ghost use mathlib.Core.Path.{_≡_};
 ghost use Prim.Native.Nat.{_*_, _+_, _<_};
 ghost use lib.ListN.{length, getD};

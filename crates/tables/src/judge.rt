@@ -2,9 +2,9 @@
 use counts::Counts;
 use counts::Refusal;
 use counts::TIME_LIMIT;
+use judging::is_idle;
+use judging::rings_fine;
 use model::verdict::Verdict;
-use ring::judge::is_idle;
-use ring::judge::rings_fine;
 use ring::wide;
 ghost use mathlib.Core.Path.{_≡_};
 ghost use Prim.Native.Nat.{_+_, _*_, _<_, _≤_};

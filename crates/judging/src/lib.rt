@@ -1,6 +1,6 @@
 // The judge of rings: do the heads' rings hold all links that have not two zeros, each once, and does the predecessor undo the
 // successor? Each word is looked at a fixed number of times, and nothing is written.
-use crate::wide;
+use ring::wide;
 ghost use mathlib.Core.Path.{_≡_};
 ghost use Prim.Native.Nat.{_+_, _*_, _-_, _<_, _≤_};
 ghost use lib.ListN.{length};

@@ -1,9 +1,9 @@
 use borrow.Author.Tests.{not-true, not-false}
-use Rattle.ring.proofs.Judging.{next-not, next-in-table, next-one-way, next-is}
+use Rattle.judging.proofs.Judging.{next-not, next-in-table, next-one-way, next-is}
 use borrow.Author.Needs.{needs}
 use native.Mathlib.Omega.{arith}
-use Rattle.ring.proofs.judge.next_place.Statement.{statement}
-use Rattle.ring.proofs.judge.next_place.Tie as tie
+use Rattle.judging.proofs.next_place.Statement.{statement}
+use Rattle.judging.proofs.next_place.Tie as tie
 
 mul-wide : tie.Need-mul-wide
 mul-wide c = search needs

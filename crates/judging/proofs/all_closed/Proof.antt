@@ -1,8 +1,8 @@
-use Rattle.ring.proofs.Judging.{Heads, heads-start, heads-broken, heads-turn, heads-out}
+use Rattle.judging.proofs.Judging.{Heads, heads-start, heads-broken, heads-turn, heads-out}
 use borrow.Author.Needs.{needs}
 use native.Mathlib.Omega.{arith}
-use Rattle.ring.proofs.judge.all_closed.Statement.{statement}
-use Rattle.ring.proofs.judge.all_closed.Tie as tie
+use Rattle.judging.proofs.all_closed.Statement.{statement}
+use Rattle.judging.proofs.all_closed.Tie as tie
 
 abbrev Inv-loop : tie.InvT-loop
 Inv-loop t m lo hi n g links left₀ h₀ i₀ left h i = Heads m t lo hi n g links left h i

@@ -1,9 +1,9 @@
 use Prim.Native.Nat.{_-_, _≤_}
-use Rattle.ring.proofs.Judging.{Weighs, weighs-start, weighs-turn, weighs-out}
+use Rattle.judging.proofs.Judging.{Weighs, weighs-start, weighs-turn, weighs-out}
 use borrow.Author.Needs.{needs}
 use native.Mathlib.Omega.{arith}
-use Rattle.ring.proofs.judge.count_busy.Statement.{statement}
-use Rattle.ring.proofs.judge.count_busy.Tie as tie
+use Rattle.judging.proofs.count_busy.Statement.{statement}
+use Rattle.judging.proofs.count_busy.Tie as tie
 
 abbrev Inv-loop : tie.InvT-loop
 Inv-loop t m lo hi end n₀ j₀ n j = Weighs m t lo n j × (j ≤ end)

@@ -1,7 +1,7 @@
-use Rattle.ring.proofs.Judging.{weight-zero, weight-one}
+use Rattle.judging.proofs.Judging.{weight-zero, weight-one}
 use borrow.Author.Needs.{needs}
-use Rattle.ring.proofs.judge.weight.Statement.{statement}
-use Rattle.ring.proofs.judge.weight.Tie as tie
+use Rattle.judging.proofs.weight.Statement.{statement}
+use Rattle.judging.proofs.weight.Tie as tie
 
 is-idle-requires : tie.Need-is-idle-requires
 is-idle-requires c κs = search needs

@@ -1,7 +1,7 @@
-use Rattle.ring.proofs.Judging.{not-idle, half-idle}
+use Rattle.judging.proofs.Judging.{not-idle, half-idle}
 use borrow.Author.Needs.{needs}
-use Rattle.ring.proofs.judge.is_idle.Statement.{statement}
-use Rattle.ring.proofs.judge.is_idle.Tie as tie
+use Rattle.judging.proofs.is_idle.Statement.{statement}
+use Rattle.judging.proofs.is_idle.Tie as tie
 
 mul-if1 : tie.Need-mul-if1
 mul-if1 c = search needs

@@ -1,7 +1,7 @@
 use mathlib.Core.Path.{sym}
 use Rattle.rings.specs.RingWalk.{allowed-head, allowed-low, allowed-link}
-use Rattle.ring.proofs.judge.may_stand.Statement.{statement}
-use Rattle.ring.proofs.judge.may_stand.Tie as tie
+use Rattle.judging.proofs.may_stand.Statement.{statement}
+use Rattle.judging.proofs.may_stand.Tie as tie
 
 returns : tie.Need-returns
 returns c = sym (allowed-head _ _ _ _ (c .if1 .taken))

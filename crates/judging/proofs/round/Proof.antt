@@ -1,7 +1,7 @@
-use Rattle.ring.proofs.Judging.{Rounds, rounds-start, rounds-broken, rounds-back, rounds-short, rounds-turn}
+use Rattle.judging.proofs.Judging.{Rounds, rounds-start, rounds-broken, rounds-back, rounds-short, rounds-turn}
 use borrow.Author.Needs.{needs}
-use Rattle.ring.proofs.judge.round.Statement.{statement}
-use Rattle.ring.proofs.judge.round.Tie as tie
+use Rattle.judging.proofs.round.Statement.{statement}
+use Rattle.judging.proofs.round.Tie as tie
 
 abbrev Inv-loop : tie.InvT-loop
 Inv-loop t m lo hi h left a₀ k₀ a k = Rounds m t lo hi h left a k

@@ -1,7 +1,7 @@
-use Rattle.ring.proofs.Judging.{not-fine, is-fine}
+use Rattle.judging.proofs.Judging.{not-fine, is-fine}
 use borrow.Author.Needs.{needs}
-use Rattle.ring.proofs.judge.rings_fine.Statement.{statement}
-use Rattle.ring.proofs.judge.rings_fine.Tie as tie
+use Rattle.judging.proofs.rings_fine.Statement.{statement}
+use Rattle.judging.proofs.rings_fine.Tie as tie
 
 is-idle-requires : tie.Need-is-idle-requires
 is-idle-requires c κs = search needs
