@@ -4,44 +4,10 @@ use layout::check::check;
 use ring::wide;
 use runner::answer::number;
 use runner::start;
-use runs::Ran;
 use sheet::header::Checked;
-use sheet::header::Header;
 ghost use mathlib.Core.Path.{_≡_};
-ghost use Prim.Native.Nat.{_≤_};
-ghost use lib.ListN.{length};
 ghost use Rattle.counts.specs.Refusals.{refusalNumber};
-ghost use Rattle.sheet.specs.Accepted.{checked};
-ghost use Rattle.sheet.specs.declared.header.Checked.the-variants.{Accepted};
-ghost use Rattle.host.specs.Host.{startedHere, hosted};
-
-// A fresh run over local tables, cut to the sheet's lengths.
-fn run_here(header: Header, sheet: &[u8], trace: &mut [u8]) -> Ran
-    requires { ⌜ checked (now sheet) ≡ Accepted header ⌝ }
-    requires { ⌜ length (now trace) ≤ 65536 ⌝ }
-    ensures { λ r. ⌜ record { trace = now (trace .exit); result = r } ≡ startedHere (header .counts) (now (sheet .entry)) (now (trace .entry)) ⌝ }
-{
-    let c = header.counts;
-    let n = c.total() + 1;
-    let p = wide(c.processes) + 1;
-    let mut links = [0u32; 8194];
-    let mut axis = [0u32; 2052];
-    let mut times = [0u64; 1025];
-    let mut marks = [0u8; 1025];
-    let mut positions = [0u32; 1025];
-    let mut accums = [0i64; 192];
-    start(
-        header,
-        sheet,
-        &mut links[..2 * n],
-        &mut axis[..2 * (p + 1)],
-        &mut times[..p],
-        &mut marks[..p],
-        &mut positions[..p],
-        &mut accums,
-        trace,
-    )
-}
+ghost use Rattle.host.specs.Host.{hosted};
 
 fn refused(q: Refusal) -> u64
     ensures { λ r. ⌜ r ≡ refusalNumber q ⌝ }
@@ -51,11 +17,17 @@ fn refused(q: Refusal) -> u64
 }
 
 // Runs a sheet from fresh and answers lines × 256 + code: 0 finished, 200 full, else the refusal. The lines are written to the trace;
-// the bytes after them stay as they were.
+// the bytes after them stay as they were. The tables come first, before any way out: docs/DECISIONS.md says why.
 #[no_mangle]
 pub extern "C" fn nodbrize_run(sheet: &[u8], trace: &mut [u8]) -> u64
     ensures { λ r. ⌜ record { trace = now (trace .exit); number = r } ≡ hosted (now (sheet .entry)) (now (trace .entry)) ⌝ }
 {
+    let mut links = [0u32; 8194];
+    let mut axis = [0u32; 2052];
+    let mut times = [0u64; 1025];
+    let mut marks = [0u8; 1025];
+    let mut positions = [0u32; 1025];
+    let mut accums = [0i64; 192];
     let read = check(sheet);
     match read {
         Checked::Refused(q) => refused(q),
@@ -63,7 +35,20 @@ pub extern "C" fn nodbrize_run(sheet: &[u8], trace: &mut [u8]) -> u64
             if 65536 < trace.len() {
                 return refused(Refusal::Size);
             }
-            let ran = run_here(header, sheet, trace);
+            let c = header.counts;
+            let n = c.total() + 1;
+            let p = wide(c.processes) + 1;
+            let ran = start(
+                header,
+                sheet,
+                &mut links[..2 * n],
+                &mut axis[..2 * (p + 1)],
+                &mut times[..p],
+                &mut marks[..p],
+                &mut positions[..p],
+                &mut accums,
+                trace,
+            );
             number(ran)
         }
     }

@@ -32,9 +32,12 @@ timeAt c axis times = getD times (placeNow c axis) 0
 abbrev pub firstAt : Counts → List ℕ → ℕ → ℕ
 firstAt c links h = sets.sucOf (c .heads) h links
 
--- "0 to N, or 65,536 for current, or 65,536 + h .. for the first member of head h (none if empty)"
-unfoldable pub operandAt : Counts → List ℕ → List ℕ → ℕ → ℕ
-operandAt c links axis v = if ltb v 65536 then v else if eqb v 65536 then currentAt c axis else firstAt c links (v - 65536)
+-- "0 to N, or 65,536 for current, or 65,536 + h .. for the first member of head h (none if empty)"; f is current's place
+unfoldable pub operandWith : Counts → List ℕ → ℕ → ℕ → ℕ
+operandWith c links f v = if ltb v 65536 then v else if eqb v 65536 then linkageAt c f else firstAt c links (v - 65536)
+
+abbrev pub operandAt : Counts → List ℕ → List ℕ → ℕ → ℕ
+operandAt c links axis v = operandWith c links (placeNow c axis) v
 
 -- ---- calling
 

@@ -28,7 +28,7 @@ use Rattle.sequencing.specs.QueryMeaning.{current-means, time-means}
 use Rattle.sheet.specs.Accepted.{isOperand}
 use Rattle.sheet.specs.Fields.{operand-high}
 use Rattle.machine.specs.Steps.{firstIn, operandOf}
-use Rattle.machine.specs.OnTables.{placeNow, currentAt, timeAt, firstAt, operandAt}
+use Rattle.machine.specs.OnTables.{placeNow, currentAt, timeAt, firstAt, operandWith, operandAt}
 
 -- the successor of a head is its first member, none where it has none
 first-of : (m H : ℕ) (sets : List (List ℕ)) (t : List ℕ) → SpellsSets m H sets t → (h : ℕ) → Head m (setHead H) h → procedures.sucOf H h t ≡ firstIn (membersOf sets h)
@@ -60,11 +60,11 @@ module _ (c : Counts) (l : Lists) (t : Tables) (w : Sized c t) (s : Spells c l t
 
   -- a number below 65,536 stands for itself
   pub operand-plain : (v : ℕ) → v < 65536 → (operandAt c (t .links) (t .axis) v ≡ v) × (operandOf l v ≡ v)
-  unfolding operandAt operandOf
+  unfolding operandWith operandOf
   operand-plain v h = rw (lt-ltb v 65536 h) (refl, refl)
 
   pub operand-at : (v : ℕ) → isOperand c v ≡ true → operandAt c (t .links) (t .axis) v ≡ operandOf l v
-  unfolding operandAt operandOf
+  unfolding operandWith operandOf
   operand-at v o =
       test (ltb v 65536)
       (λ e. rw e)

@@ -1,14 +1,17 @@
-// Turn after turn on judged tables, until main has finished, the trace is full or a step is refused. The last process's position is
-// kept beside its table, so that a process which stays current needs no read.
+// Turn after turn on judged tables, until main has finished, the trace is full or a step is refused. Current's place, its time and the
+// record that it is at are kept beside the tables, and are read again only after a call that may change the first notice.
 use counts::Counts;
 use machine::End;
+use runs::Effect;
 use runs::Ran;
-use runs::Turned;
-use stepping::reading::ends_now;
+use stepping::move_on;
+use stepping::perform::perform;
 use stepping::reading::is_end;
+use stepping::reading::next_of;
 use stepping::reading::place_now;
 use stepping::reading::position;
-use stepping::step;
+use stepping::reading::record_of;
+use stepping::reading::time_of;
 ghost use mathlib.Core.Path.{_≡_};
 ghost use Prim.Native.Nat.{_/_, _≤_};
 ghost use lib.ListN.{length};
@@ -41,44 +44,46 @@ pub(crate) fn turns(
 {
     let room = trace.len() / 16;
     let mut n = 0;
-    let mut last = 0;
-    let mut at = positions[0];
+    let mut f = place_now(c, axis);
+    let mut time = time_of(times, f);
+    let mut r = record_of(positions, f);
     while n < room {
-        let f = place_now(c, axis);
-        let r = position(positions, f, last, at);
         if is_end(f, r) {
             return Ran {
                 lines: count(n),
                 end: End::Finished,
             };
         }
-        match step(
-            c,
-            sheet,
-            links,
-            axis,
-            times,
-            marks,
-            positions,
-            accums,
-            trace,
-            r,
-            16 * n,
-        ) {
-            Turned::Refused(q) => {
+        match perform(c, sheet, r, f, time, links, axis, times, marks, accums) {
+            Effect::Refused(q) => {
                 return Ran {
                     lines: count(n),
                     end: End::Refused(q),
                 };
             }
-            Turned::On(next) => {
-                last = f;
-                at = next;
+            Effect::Stays => {
+                let next = next_of(sheet, c.processes, r);
+                move_on(c, positions, trace, f, time, r, 16 * n, next);
+                r = next;
+                n += 1;
+            }
+            Effect::Jumps(y) => {
+                move_on(c, positions, trace, f, time, r, 16 * n, y);
+                r = y;
+                n += 1;
+            }
+            Effect::Moves => {
+                let next = next_of(sheet, c.processes, r);
+                move_on(c, positions, trace, f, time, r, 16 * n, next);
+                let g = place_now(c, axis);
+                r = position(positions, g, f, next);
+                time = time_of(times, g);
+                f = g;
                 n += 1;
             }
         }
     }
-    if ends_now(c, axis, positions) {
+    if is_end(f, r) {
         return Ran {
             lines: count(n),
             end: End::Finished,

@@ -1,20 +1,21 @@
--- Each arm of the match over operations: what a step's function leaves is what its call carries out.
+-- Each arm of the match over operations: what its function leaves, and what that means for current, is what the record's call comes to.
 use Prim.Native.Nat.{ℕ, _+_, _≤_}
-use mathlib.Core.Path.{_≡_, sym, ap, _∙_, subst}
+use mathlib.Core.Path.{_≡_, refl, sym, ap, _∙_, subst}
 use mathlib.Core.Logic.{_≢_}
-use mathlib.Core.Bool.{Bool}
+use mathlib.Core.Bool.{Bool, true, false, _&&_}
 use mathlib.Core.List.{List}
 use native.Mathlib.Omega.{arith}
 use lib.IntN.{ℤ}
 use lib.Dec.{eqb}
 use borrow.Author.Tests.{eq-eqb, ne-eqb}
-use Rattle.rings.specs.Lists.{decide}
+use Rattle.rings.specs.Lists.{if_then_else_}
 use Rattle.counts.specs.declared.Counts.{Counts}
 use Rattle.counts.specs.Counts.{total, isHead}
 use Rattle.model.specs.declared.answer.Answer.{Answer}
 use Rattle.model.specs.declared.answer.Answer.the-variants.{Done}
 use Rattle.model.specs.Tables.{Tables, After}
-use Rattle.sets.specs.Calls.{Linked, telling}
+use Rattle.sets.specs.Procedures.{emptyOf}
+use Rattle.sets.specs.Calls.{Linked, telling, outStep, followStep, precedeStep, intoStep, clearStep}
 use Rattle.sets.specs.Promise.{Moved}
 use Rattle.sequencing.specs.Promise.{sqs, Answers}
 use Rattle.sequencing.specs.StepPromise.{FinishMade, WaitMade}
@@ -23,162 +24,135 @@ use Rattle.sequencing.specs.Calls.{half, holdStep, passivateStep, cancelStep, t
 use Rattle.accumulator.specs.Flat.{Changed, updatedIn}
 use Rattle.sheet.specs.declared.records.Record.{Record}
 use Rattle.machine.specs.Calls.{SetCall, out, follow, precede, into, clear, ListCall, onSet, hold, passivate, wait, cancel, activate, ifEmpty, finish, Call, onList, accum}
-use Rattle.machine.specs.Steps.{callOf}
-use Rattle.machine.specs.OnTables.{timeAt, linksAfter, tablesAfter, carriedOut}
-use Rattle.runs.specs.Run.{callDue}
+use Rattle.machine.specs.OnTables.{timeAt, operandWith, linksAfter, tablesAfter, Carried, carriedOut}
+use Rattle.runs.specs.declared.Effect.{Effect}
+use Rattle.runs.specs.declared.Effect.the-variants.{Stays, Jumps, Moves}
+use Rattle.runs.specs.Run.{resolved, callDue}
+use Rattle.runs.specs.Performed.{listEffect, callEffect, effectOf, unlessRefused, branched, performed}
+use Rattle.runs.specs.Which as which
 
--- ---- which call an operation is
-
-module _ (d : Record) where
-  some : (n : ℕ) → d .operation ≡ n → n ≢ 0 → callDue d ≡ callOf d (d .x) (d .y)
-  unfolding callDue
-  some n e z = rw (ne-eqb (d .operation) 0 (λ q. z (sym e ∙ q)))
-
-  pub call-0 : d .operation ≡ 0 → callDue d ≡ onList finish
-  unfolding callDue
-  call-0 e = rw (eq-eqb (d .operation) 0 e)
-
-  pub call-1 : d .operation ≡ 1 → callDue d ≡ onList (onSet (out (d .x)))
-  unfolding callOf
-  call-1 e = some 1 e (λ z. omega arith) ∙ (rw e)
-
-  pub call-2 : d .operation ≡ 2 → callDue d ≡ onList (onSet (follow (d .x) (d .y)))
-  unfolding callOf
-  call-2 e = some 2 e (λ z. omega arith) ∙ (rw e)
-
-  pub call-3 : d .operation ≡ 3 → callDue d ≡ onList (onSet (precede (d .x) (d .y)))
-  unfolding callOf
-  call-3 e = some 3 e (λ z. omega arith) ∙ (rw e)
-
-  pub call-4 : d .operation ≡ 4 → callDue d ≡ onList (onSet (into (d .x) (d .y)))
-  unfolding callOf
-  call-4 e = some 4 e (λ z. omega arith) ∙ (rw e)
-
-  pub call-5 : d .operation ≡ 5 → callDue d ≡ onList (onSet (clear (d .x)))
-  unfolding callOf
-  call-5 e = some 5 e (λ z. omega arith) ∙ (rw e)
-
-  pub call-6 : d .operation ≡ 6 → callDue d ≡ onList (hold (d .t))
-  unfolding callOf
-  call-6 e = some 6 e (λ z. omega arith) ∙ (rw e)
-
-  pub call-7 : d .operation ≡ 7 → callDue d ≡ onList passivate
-  unfolding callOf
-  call-7 e = some 7 e (λ z. omega arith) ∙ (rw e)
-
-  pub call-8 : d .operation ≡ 8 → callDue d ≡ onList (wait (d .y))
-  unfolding callOf
-  call-8 e = some 8 e (λ z. omega arith) ∙ (rw e)
-
-  pub call-9 : d .operation ≡ 9 → callDue d ≡ onList (cancel (d .x))
-  unfolding callOf
-  call-9 e = some 9 e (λ z. omega arith) ∙ (rw e)
-
-  -- 10 and 11
-  pub call-timed : 10 ≤ d .operation → d .operation ≤ 11 → callDue d ≡ onList (activate (eqb (d .operation) 11) (d .clause) (d .x) (d .y) (d .t))
-  unfolding callOf
-  call-timed l m =
-      decide (d .operation) 10
-      (λ e. some 10 e (λ z. omega arith) ∙ (rw e))
-      (λ n. let e : d .operation ≡ 11 = omega arith in some 11 e (λ z. omega arith) ∙ (rw e))
-
-  pub call-12 : d .operation ≡ 12 → callDue d ≡ onList (ifEmpty (d .x))
-  unfolding callOf
-  call-12 e = some 12 e (λ z. omega arith) ∙ (rw e)
-
-  pub call-13 : d .operation ≡ 13 → callDue d ≡ accum (d .x) (d .t)
-  unfolding callOf
-  call-13 e = some 13 e (λ z. omega arith) ∙ (rw e)
-
--- ---- what its function leaves
-
-module _ (c : Counts) (call : Call) (links axis times marks : List ℕ) (w : List ℤ) where
+module _ (c : Counts) (q : Record) (f : ℕ) (links axis times marks : List ℕ) (w : List ℤ) where
   abbrev t : Tables
   t = record { links = links; axis = axis; times = times; marks = marks }
 
-  list-arm : (k : ListCall) → call ≡ onList k → (a : After Answer) → a ≡ tablesAfter c k t
-      → record { tables = a .tables; words = w; answer = a .answer } ≡ carriedOut c call t w
-  unfolding carriedOut
-  list-arm k e a q =
-      ap (λ (o : After Answer). record { tables = o .tables; words = w; answer = o .answer }) q ∙ sym (ap (λ (f : Call). carriedOut c f t w) e)
+  abbrev x : ℕ
+  x = operandWith c links f (q .x)
 
-  module _ (r : Answer) where
-    pub set-arm : (k : SetCall) → call ≡ onList (onSet k) → (l : List ℕ) → Moved (total c + 1) (linksAfter c k links) (record { links = l; answer = r })
-        → record { tables = record { links = l; axis = axis; times = times; marks = marks }; words = w; answer = r } ≡ carriedOut c call t w
-    unfolding tablesAfter
-    set-arm k e l m =
-        list-arm (onSet k) e (record { tables = record { links = l; axis = axis; times = times; marks = marks }; answer = r })
-        (ap (λ (o : Linked). record { tables = record { links = o .links; axis = axis; times = times; marks = marks }; answer = o .answer }) (m .is))
+  abbrev y : ℕ
+  y = operandWith c links f (q .y)
 
-    module _ (a u : List ℕ) where
-      -- a signed number that is handed on is read from its word
-      pub hold-arm : (z y : ℤ) → y ≡ z → call ≡ onList (hold z) → Answers (half c) (holdStep c y (sqs axis times)) a u r
-          → record { tables = record { links = links; axis = a; times = u; marks = marks }; words = w; answer = r } ≡ carriedOut c call t w
-      unfolding tablesAfter
-      hold-arm z y q e k =
-          list-arm (hold z) e (record { tables = record { links = links; axis = a; times = u; marks = marks }; answer = r })
-          (on-sqs (half c) links axis times marks a u r (λ m s. holdStep c z s) (subst (λ (v : ℤ). Answers (half c) (holdStep c v (sqs axis times)) a u r) q k))
+  abbrev due : Call
+  due = callDue (resolved c links f q)
 
-      pub passivate-arm : call ≡ onList passivate → Answers (half c) (passivateStep c (sqs axis times)) a u r
-          → record { tables = record { links = links; axis = a; times = u; marks = marks }; words = w; answer = r } ≡ carriedOut c call t w
-      unfolding tablesAfter
-      passivate-arm e k =
-          list-arm passivate e (record { tables = record { links = links; axis = a; times = u; marks = marks }; answer = r })
-          (on-sqs (half c) links axis times marks a u r (λ m s. passivateStep c s) k)
+  -- ---- by what the call carries out
 
-      pub cancel-arm : (x : ℕ) → call ≡ onList (cancel x) → Answers (half c) (cancelStep c x (sqs axis times)) a u r
-          → record { tables = record { links = links; axis = a; times = u; marks = marks }; words = w; answer = r } ≡ carriedOut c call t w
-      unfolding tablesAfter
-      cancel-arm x e k =
-          list-arm (cancel x) e (record { tables = record { links = links; axis = a; times = u; marks = marks }; answer = r })
-          (on-sqs (half c) links axis times marks a u r (λ m s. cancelStep c x s) k)
+  by : (k : Call) → due ≡ k → (e : Effect) → e ≡ effectOf k q (emptyOf x links) → (a : Carried) → a ≡ carriedOut c k t w
+      → (v : Effect) → v ≡ unlessRefused (a .answer) e → record { tables = a .tables; words = a .words; effect = v } ≡ performed c q f t w
+  unfolding performed resolved
+  by k ek e ee a ea v ev =
+      ap (λ (z : Effect). record { tables = a .tables; words = a .words; effect = z }) (ev ∙ ap (unlessRefused (a .answer)) ee)
+      ∙ ap (λ (o : Carried). record { tables = o .tables; words = o .words; effect = unlessRefused (o .answer) (effectOf k q (emptyOf x links)) }) ea
+      ∙ sym (ap (λ (j : Call). let o = carriedOut c j t w in
+      record { tables = o .tables; words = o .words; effect = unlessRefused (o .answer) (effectOf j q (emptyOf x links)) }) ek)
 
-      pub timed-arm : (again : Bool) (k j x y : ℕ) (z i : ℤ) → j ≡ k → i ≡ z → call ≡ onList (activate again k x y z)
-          → Answers (half c) (timedStep c again j x y i marks (sqs axis times)) a u r
-          → record { tables = record { links = links; axis = a; times = u; marks = marks }; words = w; answer = r } ≡ carriedOut c call t w
-      unfolding tablesAfter
-      timed-arm again k j x y z i p q e g =
-          list-arm (activate again k x y z) e (record { tables = record { links = links; axis = a; times = u; marks = marks }; answer = r })
-          (on-sqs (half c) links axis times marks a u r (λ m s. timedStep c again k x y z m s)
-          (subst (λ (n : ℕ). Answers (half c) (timedStep c again n x y z marks (sqs axis times)) a u r) p
-          (subst (λ (v : ℤ). Answers (half c) (timedStep c again j x y v marks (sqs axis times)) a u r) q g)))
+  -- an operation other than 12
+  plain : (n : ℕ) → q .operation ≡ n → n ≢ 12 → (k : Call) → callEffect k ≡ effectOf k q (emptyOf x links)
+  unfolding effectOf
+  plain n e z k = rw (ne-eqb (q .operation) 12 (λ o. z (sym e ∙ o)))
 
-      pub finish-arm : (m : List ℕ) → call ≡ onList finish → FinishMade c (finishStep c marks (sqs axis times)) a u m r
-          → record { tables = record { links = links; axis = a; times = u; marks = m }; words = w; answer = r } ≡ carriedOut c call t w
-      unfolding tablesAfter
-      finish-arm m e k =
-          list-arm finish e (record { tables = record { links = links; axis = a; times = u; marks = m }; answer = r })
-          (on-marks c links axis times marks a u m r (λ n s. finishStep c n s) k)
-
-      pub wait-arm : (y : ℕ) (l : List ℕ) → call ≡ onList (wait y) → WaitMade c (waitStep c y links (sqs axis times)) l a u r
-          → record { tables = record { links = l; axis = a; times = u; marks = marks }; words = w; answer = r } ≡ carriedOut c call t w
-      unfolding tablesAfter
-      wait-arm y l e k =
-          list-arm (wait y) e (record { tables = record { links = l; axis = a; times = u; marks = marks }; answer = r })
-          (on-sets c links axis times marks a u l r (λ n s. waitStep c y n s) k)
-
-    pub head-arm : (x : ℕ) → call ≡ onList (ifEmpty x) → r ≡ telling (isHead c x) Done → record { tables = t; words = w; answer = r } ≡ carriedOut c call t w
-    unfolding tablesAfter
-    head-arm x e q = list-arm (ifEmpty x) e (record { tables = t; answer = r }) (ap (λ (b : Answer). record { tables = t; answer = b }) q)
-
-    pub accum-arm : (k now : ℕ) (z y : ℤ) (v : List ℤ) → y ≡ z → call ≡ accum k z → now ≡ timeAt c axis times → record { words = v; answer = r } ≡ updatedIn k now y w
-        → record { tables = t; words = v; answer = r } ≡ carriedOut c call t w
+  module _ (n : ℕ) (o : q .operation ≡ n) (z : n ≢ 12) (r : Answer) (v : Effect) where
+    list-by : (k : ListCall) → due ≡ onList k → (b : Tables) → record { tables = b; answer = r } ≡ tablesAfter c k t → v ≡ unlessRefused r (listEffect k)
+        → record { tables = b; words = w; effect = v } ≡ performed c q f t w
     unfolding carriedOut
-    accum-arm k now z y v p e i q =
-        ap (λ (o : Changed). record { tables = t; words = o .words; answer = o .answer })
-        (q ∙ ap (λ (n : ℤ). updatedIn k now n w) p ∙ ap (λ (j : ℕ). updatedIn k j z w) i)
-        ∙ sym (ap (λ (f : Call). carriedOut c f t w) e)
+    list-by k ek b ea ev =
+        by (onList k) ek (listEffect k) (plain n o z (onList k)) (record { tables = b; words = w; answer = r })
+        (ap (λ (a : After Answer). record { tables = a .tables; words = w; answer = a .answer }) ea) v ev
 
--- past 9, without 12 and 13
-past : (n k : ℕ) → k ≤ n → n ≢ k → k + 1 ≤ n
-past n k l d = omega arith
+    set-by : (k : SetCall) → due ≡ onList (onSet k) → (l : List ℕ) → Moved (total c + 1) (linksAfter c k links) (record { links = l; answer = r })
+        → v ≡ unlessRefused r Stays → record { tables = record { links = l; axis = axis; times = times; marks = marks }; words = w; effect = v } ≡ performed c q f t w
+    unfolding tablesAfter
+    set-by k ek l m ev =
+        list-by (onSet k) ek (record { links = l; axis = axis; times = times; marks = marks })
+        (ap (λ (b : Linked). record { tables = record { links = b .links; axis = axis; times = times; marks = marks }; answer = b .answer }) (m .is)) ev
 
-pub the-rest : (n : ℕ) → n ≤ 13 → n ≢ 0 → n ≢ 1 → n ≢ 2 → n ≢ 3 → n ≢ 4 → n ≢ 5 → n ≢ 6 → n ≢ 7 → n ≢ 8 → n ≢ 9 → n ≢ 12 → n ≢ 13 → (10 ≤ n) × (n ≤ 11)
-the-rest n l a b c d e f g h i j k m =
-    (past n 9 (past n 8 (past n 7 (past n 6 (past n 5 (past n 4 (past n 3 (past n 2 (past n 1 (past n 0 (none n) a) b) c) d) e) f) g) h) i) j, most n l k m)
-  where
-    none : (n : ℕ) → 0 ≤ n
-    none n = omega arith
+  -- ---- the arms
 
-    most : (n : ℕ) → n ≤ 13 → n ≢ 12 → n ≢ 13 → n ≤ 11
-    most n l k m = omega arith
+  module _ (r : Answer) (v : Effect) where
+    module _ (l : List ℕ) (ev : v ≡ unlessRefused r Stays) where
+      abbrev Sets : Type 0
+      Sets = record { tables = record { links = l; axis = axis; times = times; marks = marks }; words = w; effect = v } ≡ performed c q f t w
+
+      pub arm-1 : q .operation ≡ 1 → Moved (total c + 1) (outStep c x links) (record { links = l; answer = r }) → Sets
+      arm-1 e m = set-by 1 e (λ z. omega arith) r v (out x) (which.call-1 c links f q e) l m ev
+
+      pub arm-2 : q .operation ≡ 2 → Moved (total c + 1) (followStep c x y links) (record { links = l; answer = r }) → Sets
+      arm-2 e m = set-by 2 e (λ z. omega arith) r v (follow x y) (which.call-2 c links f q e) l m ev
+
+      pub arm-3 : q .operation ≡ 3 → Moved (total c + 1) (precedeStep c x y links) (record { links = l; answer = r }) → Sets
+      arm-3 e m = set-by 3 e (λ z. omega arith) r v (precede x y) (which.call-3 c links f q e) l m ev
+
+      pub arm-4 : q .operation ≡ 4 → Moved (total c + 1) (intoStep c x y links) (record { links = l; answer = r }) → Sets
+      arm-4 e m = set-by 4 e (λ z. omega arith) r v (into x y) (which.call-4 c links f q e) l m ev
+
+      pub arm-5 : q .operation ≡ 5 → Moved (total c + 1) (clearStep c x links) (record { links = l; answer = r }) → Sets
+      arm-5 e m = set-by 5 e (λ z. omega arith) r v (clear x) (which.call-5 c links f q e) l m ev
+
+    module _ (a u : List ℕ) (ev : v ≡ unlessRefused r Moves) where
+      abbrev Axis : Type 0
+      Axis = record { tables = record { links = links; axis = a; times = u; marks = marks }; words = w; effect = v } ≡ performed c q f t w
+
+      pub arm-6 : q .operation ≡ 6 → Answers (half c) (holdStep c (q .t) (sqs axis times)) a u r → Axis
+      unfolding tablesAfter
+      arm-6 e k =
+          list-by 6 e (λ z. omega arith) r v (hold (q .t)) (which.call-6 c links f q e) _
+          (on-sqs (half c) links axis times marks a u r (λ m s. holdStep c (q .t) s) k) ev
+
+      pub arm-7 : q .operation ≡ 7 → Answers (half c) (passivateStep c (sqs axis times)) a u r → Axis
+      unfolding tablesAfter
+      arm-7 e k =
+          list-by 7 e (λ z. omega arith) r v passivate (which.call-7 c links f q e) _
+          (on-sqs (half c) links axis times marks a u r (λ m s. passivateStep c s) k) ev
+
+      pub arm-8 : (l : List ℕ) → q .operation ≡ 8 → WaitMade c (waitStep c y links (sqs axis times)) l a u r
+          → record { tables = record { links = l; axis = a; times = u; marks = marks }; words = w; effect = v } ≡ performed c q f t w
+      unfolding tablesAfter
+      arm-8 l e k =
+          list-by 8 e (λ z. omega arith) r v (wait y) (which.call-8 c links f q e) _
+          (on-sets c links axis times marks a u l r (λ n s. waitStep c y n s) k) ev
+
+      pub arm-9 : q .operation ≡ 9 → Answers (half c) (cancelStep c x (sqs axis times)) a u r → Axis
+      unfolding tablesAfter
+      arm-9 e k =
+          list-by 9 e (λ z. omega arith) r v (cancel x) (which.call-9 c links f q e) _
+          (on-sqs (half c) links axis times marks a u r (λ m s. cancelStep c x s) k) ev
+
+      -- 10 and 11
+      pub arm-timed : 10 ≤ q .operation → q .operation ≤ 11
+          → Answers (half c) (timedStep c (eqb (q .operation) 11) (q .clause) x y (q .t) marks (sqs axis times)) a u r → Axis
+      unfolding tablesAfter
+      arm-timed lo hi k =
+          list-by (q .operation) refl (λ z. omega arith) r v (activate (eqb (q .operation) 11) (q .clause) x y (q .t)) (which.call-timed c links f q lo hi) _
+          (on-sqs (half c) links axis times marks a u r (λ m s. timedStep c (eqb (q .operation) 11) (q .clause) x y (q .t) m s) k) ev
+
+      -- finish, at position 0
+      pub arm-0 : (ms : List ℕ) → q .operation ≡ 0 → FinishMade c (finishStep c marks (sqs axis times)) a u ms r
+          → record { tables = record { links = links; axis = a; times = u; marks = ms }; words = w; effect = v } ≡ performed c q f t w
+      unfolding tablesAfter
+      arm-0 ms e k =
+          list-by 0 e (λ z. omega arith) r v finish (which.call-0 c links f q e) _
+          (on-marks c links axis times marks a u ms r (λ n s. finishStep c n s) k) ev
+
+    pub arm-13 : q .operation ≡ 13 → q .x ≤ 64 → (now : ℕ) → now ≡ timeAt c axis times → (u : List ℤ) → record { words = u; answer = r } ≡ updatedIn (q .x) now (q .t) w
+        → v ≡ unlessRefused r Stays → record { tables = t; words = u; effect = v } ≡ performed c q f t w
+    unfolding carriedOut
+    arm-13 e l now i u m ev =
+        by (accum (q .x) (q .t)) (which.call-13 c links f q e l) Stays (plain 13 e (λ z. omega arith) (accum (q .x) (q .t)))
+        (record { tables = t; words = u; answer = r })
+        (ap (λ (b : Changed). record { tables = t; words = b .words; answer = b .answer }) (m ∙ ap (λ (j : ℕ). updatedIn (q .x) j (q .t) w) i)) v ev
+
+  pub arm-12 : q .operation ≡ 12 → (v : Effect) → v ≡ branched c q f links → record { tables = t; words = w; effect = v } ≡ performed c q f t w
+  unfolding carriedOut tablesAfter effectOf
+  arm-12 e v ev =
+      by (onList (ifEmpty x)) (which.call-12 c links f q e) (if emptyOf x links then Jumps (q .y) else Stays)
+      (rw (eq-eqb (q .operation) 12 e))
+      (record { tables = t; words = w; answer = telling (isHead c x) Done }) refl v ev

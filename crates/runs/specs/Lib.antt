@@ -1,14 +1,18 @@
 -- Runs of model sheets: what the code computes, that it follows the plain machine, and demand 3.
 pub mod Run
+pub mod Performed
 pub mod Needs
 pub mod Reads
+pub mod Which
 pub mod Arms
+pub mod Performing
 pub mod Standing
 pub mod StepIs
 pub mod Refine
 pub mod StepFollows
 pub mod TurnsFollow
 pub mod Turning
+pub mod Running
 pub mod Judging
 pub mod RunIs
 pub mod CallFollows

@@ -1,28 +1,43 @@
 -- What the code of a step asks of its tables and of the record it is at.
-use Prim.Native.Nat.{ℕ, _+_, _*_, _≤_, _<_}
+use Prim.Native.Nat.{ℕ, _+_, _≤_}
 use mathlib.Core.Path.{_≡_}
-use mathlib.Core.Logic.{_≢_}
+use mathlib.Core.Bool.{true}
 use mathlib.Core.List.{List}
 use lib.IntN.{ℤ}
 use lib.ListN.{length}
+use Rattle.rings.specs.Table.{Sound}
 use Rattle.counts.specs.declared.Counts.{Counts}
+use Rattle.counts.specs.Counts.{Allowed, total}
 use Rattle.model.specs.Tables.{Tables}
 use Rattle.model.specs.Ready.{Ready}
-use Rattle.sheet.specs.declared.records.Record.{Record}
-use Rattle.sheet.specs.Sheet.{recordOffset}
-use Rattle.machine.specs.OnTables.{timeAt, operandAt}
-use Rattle.runs.specs.Run.{recordGot}
+use Rattle.sheet.specs.Sheet.{recordFrom}
+use Rattle.sheet.specs.Accepted.{isOperand}
+use Rattle.sheet.specs.Fields.{Ranged}
+use Rattle.machine.specs.OnTables.{placeNow, timeAt}
 
--- to read record r: it lies in the sheet, and its operands are in their ranges
-pub record Readable (c : Counts) (bytes links axis : List ℕ) (r : ℕ) : Type 0 where
-  pub inside : r ≢ 0 → recordOffset (c .processes) r + 24 ≤ length bytes
-  pub x-in : recordGot (c .processes) bytes r .x ≤ 65536 + c .heads
-  pub y-in : recordGot (c .processes) bytes r .y ≤ 65536 + c .heads
-  pub x-place : recordGot (c .processes) bytes r .operation ≡ 12 → operandAt c links axis (recordGot (c .processes) bytes r .x) < length links
+-- to resolve an operand: counts within their limits, a sound table of links, and current at a place of the axis
+pub record Resolvable (c : Counts) (links : List ℕ) (f : ℕ) : Type 0 where
+  pub allowed : Allowed c
+  pub sound : Sound (total c + 1) links
+  pub place-in : f ≤ c .processes
 
--- to make its call: judged tables, and in 13 an accumulator that there is
-pub record Performable (c : Counts) (d : Record) (time : ℕ) (t : Tables) (words : List ℤ) : Type 0 where
+-- to resolve x, or y, of the record whose bytes begin at i
+pub record XReadable (c : Counts) (bytes : List ℕ) (i : ℕ) (links : List ℕ) (f : ℕ) : Type 0 where
+  pub inside : i + 24 ≤ length bytes
+  pub operand : isOperand c (recordFrom bytes i .x) ≡ true
+  pub resolvable : Resolvable c links f
+
+pub record YReadable (c : Counts) (bytes : List ℕ) (i : ℕ) (links : List ℕ) (f : ℕ) : Type 0 where
+  pub inside : i + 24 ≤ length bytes
+  pub operand : isOperand c (recordFrom bytes i .y) ≡ true
+  pub resolvable : Resolvable c links f
+
+-- to make its call: judged tables, fields in their ranges, current's place and time, and all accumulators
+pub record Performable (c : Counts) (bytes : List ℕ) (i f time : ℕ) (t : Tables) (words : List ℤ) : Type 0 where
   pub ready : Ready c t
-  pub few : d .operation ≤ 13
-  pub number : d .operation ≡ 13 → (1 ≤ d .x) × (3 * d .x ≤ length words)
+  pub inside : i + 24 ≤ length bytes
+  pub records : ℕ
+  pub ranged : Ranged (record { counts = c; records = records }) (recordFrom bytes i)
+  pub place-is : f ≡ placeNow c (t .axis)
   pub time-is : time ≡ timeAt c (t .axis) (t .times)
+  pub words-all : length words ≡ 192

@@ -1,23 +1,27 @@
 -- What the readers answer, from their tests.
 use Prim.Native.Nat.{ℕ, _+_, _-_, _≤_, _<_}
 use mathlib.Core.Path.{_≡_, refl, sym, ap, _∙_, subst}
-use mathlib.Core.Logic.{_≢_}
+use mathlib.Core.Logic.{_≢_, ⊎-elim}
 use mathlib.Core.Bool.{Bool, true, false, _&&_}
 use mathlib.Core.List.{List}
 use native.Mathlib.Omega.{arith}
 use lib.Dec.{eqb}
-use lib.IntN.{ℤ}
 use lib.ListN.{length, getD}
 use borrow.Author.Tests.{eq-eqb, ne-eqb, lt-ltb, le-ltb}
 use Rattle.rings.specs.Lists.{decide}
 use Rattle.counts.specs.declared.Counts.{Counts}
-use Rattle.sets.specs.Procedures.{emptyOf, linkOr}
+use Rattle.counts.specs.declared.Refusal.the-variants.{Operand}
+use Rattle.counts.specs.Counts.{total, isHead}
+use Rattle.sets.specs.Procedures.{linkOr}
 use Rattle.sheet.specs.declared.records.Record.{Record}
-use Rattle.sheet.specs.Sheet.{recordWith}
-use Rattle.machine.specs.Steps.{nextOf}
-use Rattle.machine.specs.OnTables.{placeNow, operandAt}
-use Rattle.runs.specs.Run.{endRecord, recordGot, resolved, dueNow, endsNow}
-use Rattle.runs.specs.Needs.{Readable}
+use Rattle.sheet.specs.Sheet.{recordOffset, recordFrom, recordWith}
+use Rattle.sheet.specs.Accepted.{isOperand}
+use Rattle.sheet.specs.Fields.{operand-kinds}
+use Rattle.machine.specs.OnTables.{placeNow, operandWith}
+use Rattle.runs.specs.Run.{endRecord, recordGot, endsNow}
+use Rattle.runs.specs.declared.Effect.the-variants.{Stays, Jumps, Refused}
+use Rattle.runs.specs.Performed.{branched}
+use Rattle.runs.specs.Needs.{Resolvable}
 
 module _ (c : Counts) (axis positions : List ℕ) (f : ℕ) (is : f ≡ placeNow c axis) where
   pub ends-other : f ≢ 1 → false ≡ endsNow c axis positions
@@ -46,60 +50,57 @@ module _ (c : Counts) (axis positions : List ℕ) (f : ℕ) (is : f ≡ placeNow
       and-false true = refl
       and-false false = refl
 
-module _ (c : Counts) (links axis : List ℕ) (v : ℕ) where
-  pub operand-low : v < 65536 → v ≡ operandAt c links axis v
-  unfolding operandAt
-  operand-low l = rw (lt-ltb v 65536 l)
+module _ (c : Counts) (links : List ℕ) (f v : ℕ) (z : Resolvable c links f) where
+  pub operand-low : v ≤ total c → v ≡ operandWith c links f v
+  unfolding operandWith
+  operand-low l = rw (lt-ltb v 65536 (omega (arith, z .allowed .heads-in, z .allowed .processes-in, z .allowed .plains-in)))
 
-  pub operand-current : (f : ℕ) → v ≡ 65536 → f ≡ placeNow c axis → c .heads + f ≡ operandAt c links axis v
-  unfolding operandAt
-  operand-current f e is = rw (le-ltb v 65536 (omega arith), eq-eqb v 65536 e, is)
+  pub operand-current : v ≡ 65536 → c .heads + f ≡ operandWith c links f v
+  unfolding operandWith
+  operand-current e = rw (le-ltb v 65536 (omega arith), eq-eqb v 65536 e)
 
-  pub operand-first : (h r : ℕ) → 65536 ≤ v → v ≢ 65536 → h ≡ v - 65536 → r ≡ linkOr (c .heads) (getD links h 0) → r ≡ operandAt c links axis v
-  unfolding operandAt
-  operand-first h r l n e is = rw (le-ltb v 65536 l, ne-eqb v 65536 n) (is ∙ ap (λ (j : ℕ). linkOr (c .heads) (getD links j 0)) e)
+  module _ (o : isOperand c v ≡ true) (l : total c < v) (n : v ≢ 65536) where
+    pub above : (65536 ≤ v) × (v - 65536 ≤ c .heads)
+    above = ⊎-elim (λ k. absurd (no k)) (⊎-elim (λ e. absurd (n e)) (λ p. (omega (arith, p .0), omega (arith, p .1)))) (operand-kinds c v o)
+      where
+        no : v ≤ total c → ⊥
+        no k = omega arith
+
+    module _ (h : ℕ) (e : h ≡ v - 65536) where
+      pub head-within : h < length links
+      head-within = omega (arith, above .1, z .sound .two)
+
+      pub operand-first : (r : ℕ) → r ≡ linkOr (c .heads) (getD links h 0) → r ≡ operandWith c links f v
+      unfolding operandWith
+      operand-first r is = rw (le-ltb v 65536 (above .0), ne-eqb v 65536 n) (is ∙ ap (λ (j : ℕ). linkOr (c .heads) (getD links j 0)) e)
+
+-- ---- 12
+
+module _ (c : Counts) (q : Record) (f : ℕ) (links : List ℕ) (x : ℕ) (is : x ≡ operandWith c links f (q .x)) where
+  pub branch-3 : isHead c x ≡ false → Refused Operand ≡ branched c q f links
+  branch-3 e = rw (ap (isHead c) (sym is) ∙ e)
+
+  module _ (head : isHead c x ≡ true) (h : ℕ) (same : h ≡ x) where
+    at : getD links h 0 ≡ getD links (operandWith c links f (q .x)) 0
+    at = ap (λ (j : ℕ). getD links j 0) (same ∙ is)
+
+    pub branch-to : getD links h 0 ≡ x → (y : ℕ) → y ≡ q .y → Jumps y ≡ branched c q f links
+    branch-to e y ey = ap Jumps ey ∙ (rw (ap (isHead c) (sym is) ∙ head, eq-eqb _ _ (sym at ∙ e ∙ is)))
+
+    pub branch-on : getD links h 0 ≢ x → Stays ≡ branched c q f links
+    branch-on n = rw (ap (isHead c) (sym is) ∙ head, ne-eqb _ _ (λ e. n (at ∙ e ∙ sym is)))
+
+-- ---- the record
 
 module _ (P : ℕ) (bytes : List ℕ) (r : ℕ) where
   pub got-end : r ≡ 0 → endRecord ≡ recordGot P bytes r
   unfolding recordGot
   got-end e = rw (eq-eqb r 0 e)
 
-  pub got-record : (q : Record) → r ≢ 0 → q ≡ recordWith P bytes r → q ≡ recordGot P bytes r
+  pub got-record : r ≢ 0 → recordWith P bytes r ≡ recordGot P bytes r
   unfolding recordGot
-  got-record q n e = rw (ne-eqb r 0 n) e
+  got-record n = rw (ne-eqb r 0 n)
 
-module _ (q : Record) (links : List ℕ) (x : ℕ) where
-  pub next-plain : q .operation ≢ 12 → q .next ≡ nextOf q (emptyOf x links)
-  unfolding nextOf
-  next-plain n = rw (ne-eqb (q .operation) 12 n)
-
-  module _ (e : q .operation ≡ 12) (h : ℕ) (is : h ≡ x) where
-    pub next-empty : getD links h 0 ≡ x → q .y ≡ nextOf q (emptyOf x links)
-    unfolding nextOf
-    next-empty f = rw (eq-eqb (q .operation) 12 e, eq-eqb (getD links x 0) x (ap (λ (j : ℕ). getD links j 0) (sym is) ∙ f))
-
-    pub next-busy : getD links h 0 ≢ x → q .next ≡ nextOf q (emptyOf x links)
-    unfolding nextOf
-    next-busy f = rw (eq-eqb (q .operation) 12 e, ne-eqb (getD links x 0) x (λ g. f (ap (λ (j : ℕ). getD links j 0) is ∙ g)))
-
--- ---- the record due, from the record read and its operands
-
-module _ (c : Counts) (bytes links axis : List ℕ) (r : ℕ) (n : Readable c bytes links axis r) (q : Record) (is : q ≡ recordGot (c .processes) bytes r) where
-  pub x-fine : q .x ≤ 65536 + c .heads
-  x-fine = subst (λ (p : Record). p .x ≤ 65536 + c .heads) (sym is) (n .x-in)
-
-  pub y-fine : q .y ≤ 65536 + c .heads
-  y-fine = subst (λ (p : Record). p .y ≤ 65536 + c .heads) (sym is) (n .y-in)
-
-  pub place-fine : (x : ℕ) → x ≡ operandAt c links axis (q .x) → q .operation ≡ 12 → x < length links
-  place-fine x e o =
-      subst (λ (z : ℕ). z < length links) (sym (e ∙ ap (λ (p : Record). operandAt c links axis (p .x)) is))
-      (n .x-place (ap (λ (p : Record). p .operation) (sym is) ∙ o))
-
-pub due-is : (c : Counts) (bytes links axis : List ℕ) (r : ℕ) (q : Record) → q ≡ recordGot (c .processes) bytes r
-    → (x y next : ℕ) (t : ℤ) → x ≡ operandAt c links axis (q .x) → y ≡ operandAt c links axis (q .y) → next ≡ nextOf q (emptyOf x links) → t ≡ q .t
-    → record { next = next; operation = q .operation; clause = q .clause; x = x; y = y; t = t } ≡ dueNow c bytes links axis r
-unfolding resolved
-due-is c bytes links axis r q is x y next t ex ey en et =
-    (λ i. record { next = (en ∙ ap (λ (z : ℕ). nextOf q (emptyOf z links)) ex) i; operation = q .operation; clause = q .clause; x = ex i; y = ey i; t = et i })
-    ∙ ap (resolved c links axis) is
+  pub got-next : r ≢ 0 → (i n : ℕ) → i ≡ recordOffset P r → n ≡ recordFrom bytes i .next → n ≡ recordGot P bytes r .next
+  got-next z i n ei en =
+      en ∙ ap (λ (j : ℕ). recordFrom bytes j .next) ei ∙ ap (λ (q : Record). q .next) (got-record z)

@@ -131,7 +131,7 @@ module _ (bytes : List ℕ) (ok : accepted bytes ≡ true) (m : Machine) (u : Ru
         small : (v R : ℕ) → v ≤ R → R ≤ 2000 → v < 65536
         small v R a b = omega arith
 
-    pub some-call : callDue (resolved c (u .model .links) (u .model .axis) q) ≡ callOf q (operandOf l (q .x)) (operandOf l (q .y))
+    pub some-call : callDue (resolved c (u .model .links) (placeNow c (u .model .axis)) q) ≡ callOf q (operandOf l (q .x)) (operandOf l (q .y))
     unfolding callDue resolved callOf
     some-call =
         rw (ne-eqb (q .operation) 0 (λ z. none (q .operation) (ranged .operation-some) z))
@@ -142,7 +142,7 @@ module _ (bytes : List ℕ) (ok : accepted bytes ≡ true) (m : Machine) (u : Ru
 
     -- where 12 is accepted its x is a head, so that both find it empty or neither
     pub some-next : (q .operation ≡ 12 → isHead c (operandOf l (q .x)) ≡ true)
-        → resolved c (u .model .links) (u .model .axis) q .next ≡ nextOf q (noLinks (membersOf (l .sets) (operandOf l (q .x))))
+        → resolved c (u .model .links) (placeNow c (u .model .axis)) q .next ≡ nextOf q (noLinks (membersOf (l .sets) (operandOf l (q .x))))
     unfolding resolved nextOf
     some-next h =
         decide (q .operation) 12

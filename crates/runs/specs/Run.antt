@@ -29,10 +29,8 @@ use Rattle.machine.specs.declared.End.{End}
 use Rattle.machine.specs.declared.End.the-variants.{Finished, Full, Refused}
 use Rattle.machine.specs.Calls.{Call, onList, finish}
 use Rattle.machine.specs.Steps.{callOf, nextOf}
-use Rattle.machine.specs.OnTables.{placeNow, timeAt, operandAt, Carried, carriedOut}
+use Rattle.machine.specs.OnTables.{placeNow, timeAt, operandWith, Carried, carriedOut}
 use Rattle.runs.specs.declared.Ran.{Ran}
-use Rattle.runs.specs.declared.Turned.{Turned}
-use Rattle.runs.specs.declared.Turned.the-variants.{On, Refused as Off}
 
 -- a run's lent tables: the model's four, the positions ("P + 1 words of 32 bits, place 0 zero"), and the words of 64 accumulators
 pub record RunTables : Type 0 where
@@ -67,25 +65,29 @@ endRecord = record { next = 0; operation = 0; clause = 0; x = 0; y = 0; t = pos 
 unfoldable pub recordGot : ℕ → List ℕ → ℕ → Record
 recordGot P bytes r = if eqb r 0 then endRecord else recordWith P bytes r
 
--- the record with its operands resolved, and next where the process goes
-unfoldable pub resolved : Counts → List ℕ → List ℕ → Record → Record
-resolved c links axis q =
+-- the record with its operands resolved, where current is at place f, and next where the process goes
+unfoldable pub resolved : Counts → List ℕ → ℕ → Record → Record
+resolved c links f q =
     record {
-      next = nextOf q (emptyOf (operandAt c links axis (q .x)) links);
+      next = nextOf q (emptyOf (operandWith c links f (q .x)) links);
       operation = q .operation;
       clause = q .clause;
-      x = operandAt c links axis (q .x);
-      y = operandAt c links axis (q .y);
+      x = operandWith c links f (q .x);
+      y = operandWith c links f (q .y);
       t = q .t;
     }
 
 abbrev pub dueNow : Counts → List ℕ → List ℕ → List ℕ → ℕ → Record
-dueNow c bytes links axis r = resolved c links axis (recordGot (c .processes) bytes r)
+dueNow c bytes links axis r = resolved c links (placeNow c axis) (recordGot (c .processes) bytes r)
 
 unfoldable pub callDue : Record → Call
 callDue d = if eqb (d .operation) 0 then onList finish else callOf d (d .x) (d .y)
 
 -- does the run go on after this answer, and the process at which record?
+pub data Turned : Type 0 where
+  On : ℕ → Turned
+  Off : Refusal → Turned
+
 unfoldable pub turnedOf : Answer → ℕ → Turned
 turnedOf Done next = On next
 turnedOf (Linkage x) next = On next

@@ -28,9 +28,7 @@ use Rattle.machine.specs.OnTables.{placeNow, Carried, carriedOut}
 use Rattle.machine.specs.Agree.{FollowsRun, perform-follows}
 use Rattle.machine.specs.TurnLaws.{Then, perform-sizes, next-in, set-in}
 use Rattle.machine.specs.Laws.{accepted-range}
-use Rattle.runs.specs.declared.Turned.{Turned}
-use Rattle.runs.specs.declared.Turned.the-variants.{On, Refused as Off}
-use Rattle.runs.specs.Run.{RunTables, recordGot, resolved, callDue, turnedOf, Stepped, moved, recordAtNow, dueIn, lineIn, stepOn}
+use Rattle.runs.specs.Run.{RunTables, Turned, On, Off, recordGot, resolved, callDue, turnedOf, Stepped, moved, recordAtNow, dueIn, lineIn, stepOn}
 use Rattle.runs.specs.Standing.{Stands, ready, now-in}
 use Rattle.runs.specs.Refine.{bytesOf, stood, fit, current-is, record-is, line-is, listed, some-call, some-next}
 

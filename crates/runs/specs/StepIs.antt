@@ -1,50 +1,176 @@
--- What the step's code leaves, from what its calls left.
+-- What the step's code leaves, from what its call came to.
 use Prim.Native.Nat.{ℕ}
-use mathlib.Core.Path.{_≡_, sym, ap, _∙_}
+use mathlib.Core.Path.{_≡_, refl, sym, ap, _∙_, subst}
+use mathlib.Core.Bool.{Bool, true, false, _&&_}
 use mathlib.Core.List.{List}
+use lib.Dec.{eqb}
+use lib.IntN.{ℤ}
 use lib.ListN.{set}
+use borrow.Author.Tests.{eqb-true}
+use Rattle.rings.specs.Lists.{test, clash, if_then_else_}
 use Rattle.counts.specs.declared.Counts.{Counts}
 use Rattle.counts.specs.declared.Refusal.{Refusal}
-use Rattle.counts.specs.Counts.{linkageAt}
+use Rattle.counts.specs.Counts.{linkageAt, both}
+use Rattle.model.specs.declared.answer.Answer.{Answer}
+use Rattle.model.specs.declared.answer.Answer.the-variants.{Done, Linkage, Number, Truth, Refused as NotDone}
+use Rattle.model.specs.Tables.{Tables}
+use Rattle.sets.specs.Procedures.{emptyOf}
 use Rattle.sheet.specs.declared.records.Record.{Record}
 use Rattle.trace.specs.Lines.{put, lineBytes}
-use Rattle.machine.specs.OnTables.{placeNow, timeAt, Carried, carriedOut}
-use Rattle.runs.specs.declared.Turned.{Turned}
-use Rattle.runs.specs.declared.Turned.the-variants.{On, Refused as Off}
-use Rattle.runs.specs.Run.{RunTables, callDue, turnedOf, moved, recordAtNow, dueIn, lineIn, stepOn}
+use Rattle.machine.specs.Calls.{ListCall, onSet, hold, passivate, wait, cancel, activate, ifEmpty, finish, Call, onList, accum}
+use Rattle.machine.specs.Steps.{nextOf}
+use Rattle.machine.specs.OnTables.{placeNow, timeAt, tablesAfter, Carried, carriedOut}
+use Rattle.runs.specs.declared.Effect.{Effect}
+use Rattle.runs.specs.declared.Effect.the-variants.{Stays, Jumps, Moves, Refused}
+use Rattle.runs.specs.Run.{RunTables, Turned, On, Off, recordGot, resolved, callDue, turnedOf, moved, recordAtNow, dueIn, lineIn, stepOn}
+use Rattle.runs.specs.Performed.{callEffect, effectOf, unlessRefused, Performed, performed, turnedBy}
+use Rattle.runs.specs.Which.{call-12}
 
-module _ (c : Counts) (bytes : List ℕ) (i : ℕ) (u : RunTables) (tr : List ℕ) where
-  module _
-      (f : ℕ) (ef : f ≡ placeNow c (u .model .axis))
-      (r : ℕ) (er : r ≡ recordAtNow c u)
-      (time : ℕ) (et : time ≡ timeAt c (u .model .axis) (u .model .times))
-      (d : Record) (ed : d ≡ dueIn c bytes u)
-      (a : Carried) (ea : a ≡ carriedOut c (callDue d) (u .model) (u .words))
-      (v : Turned) (ev : v ≡ turnedOf (a .answer) (d .next)) where
-    line-is : lineBytes time (linkageAt c f) r ≡ lineIn c u
-    line-is =
-        ap (λ (n : ℕ). lineBytes n (linkageAt c f) r) et
-        ∙ ap (λ (n : ℕ). lineBytes (timeAt c (u .model .axis) (u .model .times)) (linkageAt c n) r) ef
-        ∙ ap (λ (n : ℕ). lineBytes (timeAt c (u .model .axis) (u .model .times)) (linkageAt c (placeNow c (u .model .axis))) n) er
+-- after an accepted call the process at place f is at next, and its line stands at byte i
+pub record Went (c : Counts) (f time r i next : ℕ) (ps tr ps′ tr′ : List ℕ) : Type 0 where
+  pub positions : ps′ ≡ set ps f next
+  pub trace : tr′ ≡ put tr i (lineBytes time (linkageAt c f) r)
 
-    step-is : moved v a (u .positions) f tr i (lineBytes time (linkageAt c f) r) ≡ stepOn c bytes i u tr
-    unfolding stepOn
-    step-is =
-        ap (λ (w : Turned). moved w a (u .positions) f tr i (lineBytes time (linkageAt c f) r)) ev
-        ∙ ap (λ (n : ℕ). moved (turnedOf (a .answer) (d .next)) a (u .positions) n tr i (lineBytes time (linkageAt c f) r)) ef
-        ∙ ap (λ (l : List ℕ). moved (turnedOf (a .answer) (d .next)) a (u .positions) (placeNow c (u .model .axis)) tr i l) line-is
-        ∙ ap (λ (q : Record). moved (turnedOf (a .answer) (q .next)) a (u .positions) (placeNow c (u .model .axis)) tr i (lineIn c u)) ed
-        ∙ ap (λ (b : Carried). moved (turnedOf (b .answer) (dueIn c bytes u .next)) b (u .positions) (placeNow c (u .model .axis)) tr i (lineIn c u))
-        (ea ∙ ap (λ (q : Record). carriedOut c (callDue q) (u .model) (u .words)) ed)
+-- ---- where the process goes
 
-    pub step-off : (q : Refusal) → v ≡ Off q
-        → record { run = record { model = a .tables; positions = u .positions; words = a .words }; trace = tr; turned = Off q } ≡ stepOn c bytes i u tr
-    step-off q e = sym (ap (λ (w : Turned). moved w a (u .positions) f tr i (lineBytes time (linkageAt c f) r)) e) ∙ step-is
+module _ (k : Call) (q : Record) (none : Bool) where
+  goes-on : On (nextOf q none) ≡ turnedBy (effectOf k q none) (q .next)
+  unfolding nextOf effectOf
+  goes-on = test (eqb (q .operation) 12 && none) (λ e. rw e refl) (λ e. rw e (plain k))
+    where
+      plain : (j : Call) → On (q .next) ≡ turnedBy (callEffect j) (q .next)
+      plain (onList (onSet s)) = refl
+      plain (onList (hold t)) = refl
+      plain (onList passivate) = refl
+      plain (onList (wait y)) = refl
+      plain (onList (cancel x)) = refl
+      plain (onList (activate again cl x y t)) = refl
+      plain (onList (ifEmpty x)) = refl
+      plain (onList finish) = refl
+      plain (accum n d) = refl
 
-    pub step-on : (p : ℕ) → p ≡ f → (next : ℕ) (ps tr′ : List ℕ) → v ≡ On next → ps ≡ set (u .positions) p next → tr′ ≡ put tr i (lineBytes time (linkageAt c f) r)
-        → record { run = record { model = a .tables; positions = ps; words = a .words }; trace = tr′; turned = On next } ≡ stepOn c bytes i u tr
-    step-on p ep next ps tr′ e eps etr =
-        ap (λ (l : List ℕ). record { run = record { model = a .tables; positions = l; words = a .words }; trace = tr′; turned = On next }) (eps ∙ ap (λ (n : ℕ). set (u .positions) n next) ep)
-        ∙ ap (λ (l : List ℕ). record { run = record { model = a .tables; positions = set (u .positions) f next; words = a .words }; trace = l; turned = On next }) etr
-        ∙ sym (ap (λ (w : Turned). moved w a (u .positions) f tr i (lineBytes time (linkageAt c f) r)) e)
-        ∙ step-is
+  turned-is : (a : Answer) → turnedOf a (nextOf q none) ≡ turnedBy (unlessRefused a (effectOf k q none)) (q .next)
+  unfolding turnedOf
+  turned-is Done = goes-on
+  turned-is (Linkage x) = goes-on
+  turned-is (Number n) = goes-on
+  turned-is (Truth b) = goes-on
+  turned-is (NotDone r) = refl
+
+-- ---- a call after which current stays keeps the axis and the times
+
+abbrev pub stayed : Effect → Bool
+stayed Stays = true
+stayed (Jumps y) = true
+stayed Moves = false
+stayed (Refused r) = false
+
+module _ (c : Counts) (t : Tables) (w : List ℤ) where
+  abbrev Kept : Call → Type 0
+  Kept k = (carriedOut c k t w .tables .axis ≡ t .axis) × (carriedOut c k t w .tables .times ≡ t .times)
+
+  keeps : (k : Call) → stayed (callEffect k) ≡ true → Kept k
+  unfolding carriedOut tablesAfter
+  keeps (onList (onSet s)) e = (refl, refl)
+  keeps (onList (hold z)) e = clash e
+  keeps (onList passivate) e = clash e
+  keeps (onList (wait y)) e = clash e
+  keeps (onList (cancel x)) e = clash e
+  keeps (onList (activate again cl x y z)) e = clash e
+  keeps (onList (ifEmpty x)) e = (refl, refl)
+  keeps (onList finish) e = clash e
+  keeps (accum n d) e = (refl, refl)
+
+-- 12 stays
+still : (k : Call) (q : Record) (none : Bool) → (q .operation ≡ 12 → stayed (callEffect k) ≡ true) → (a : Answer)
+    → stayed (unlessRefused a (effectOf k q none)) ≡ true → stayed (callEffect k) ≡ true
+unfolding effectOf
+still k q none twelve = go
+  where
+    on : stayed (if eqb (q .operation) 12 && none then Jumps (q .y) else callEffect k) ≡ true → stayed (callEffect k) ≡ true
+    on e =
+        test (eqb (q .operation) 12 && none)
+        (λ b. twelve (eqb-true (q .operation) 12 (both (eqb (q .operation) 12) none b .0)))
+        (λ b. rw b at e)
+
+    go : (a : Answer) → stayed (unlessRefused a (if eqb (q .operation) 12 && none then Jumps (q .y) else callEffect k)) ≡ true → stayed (callEffect k) ≡ true
+    go Done e = on e
+    go (Linkage x) e = on e
+    go (Number n) e = on e
+    go (Truth b) e = on e
+    go (NotDone r) e = clash e
+
+module _
+    (c : Counts) (bytes : List ℕ) (i : ℕ) (u : RunTables) (tr : List ℕ)
+    (f : ℕ) (ef : f ≡ placeNow c (u .model .axis))
+    (r : ℕ) (er : r ≡ recordAtNow c u)
+    (time : ℕ) (et : time ≡ timeAt c (u .model .axis) (u .model .times))
+    (p : Performed) (ep : p ≡ performed c (recordGot (c .processes) bytes r) f (u .model) (u .words)) where
+  abbrev q : Record
+  q = recordGot (c .processes) bytes (recordAtNow c u)
+
+  abbrev k : Call
+  k = callDue (dueIn c bytes u)
+
+  abbrev a : Carried
+  a = carriedOut c k (u .model) (u .words)
+
+  abbrev none : Bool
+  none = emptyOf (dueIn c bytes u .x) (u .model .links)
+
+  same : p ≡ record { tables = a .tables; words = a .words; effect = unlessRefused (a .answer) (effectOf k q none) }
+  unfolding performed
+  same =
+      ep ∙ ap (λ (n : ℕ). performed c (recordGot (c .processes) bytes n) f (u .model) (u .words)) er
+      ∙ ap (λ (n : ℕ). performed c q n (u .model) (u .words)) ef
+
+  line-is : lineBytes time (linkageAt c f) r ≡ lineIn c u
+  line-is =
+      ap (λ (n : ℕ). lineBytes n (linkageAt c f) r) et
+      ∙ ap (λ (n : ℕ). lineBytes (timeAt c (u .model .axis) (u .model .times)) (linkageAt c n) r) ef
+      ∙ ap (λ (n : ℕ). lineBytes (timeAt c (u .model .axis) (u .model .times)) (linkageAt c (placeNow c (u .model .axis))) n) er
+
+  abbrev carried : Performed → Carried
+  carried o = record { tables = o .tables; words = o .words; answer = a .answer }
+
+  step-is : (v : Turned) → turnedBy (p .effect) (q .next) ≡ v → moved v (carried p) (u .positions) (placeNow c (u .model .axis)) tr i (lineIn c u) ≡ stepOn c bytes i u tr
+  unfolding stepOn resolved
+  step-is v e =
+      ap (λ (x : Turned). moved x (carried p) (u .positions) (placeNow c (u .model .axis)) tr i (lineIn c u))
+      (sym e ∙ ap (λ (o : Performed). turnedBy (o .effect) (q .next)) same ∙ sym (turned-is k q none (a .answer)))
+      ∙ ap (λ (o : Performed). moved (turnedOf (a .answer) (nextOf q none)) (carried o) (u .positions) (placeNow c (u .model .axis)) tr i (lineIn c u)) same
+
+  pub step-off : (x : Refusal) → p .effect ≡ Refused x
+      → record { run = record { model = p .tables; positions = u .positions; words = p .words }; trace = tr; turned = Off x } ≡ stepOn c bytes i u tr
+  step-off x e = step-is (Off x) (ap (λ (v : Effect). turnedBy v (q .next)) e)
+
+  pub step-on : (next : ℕ) → turnedBy (p .effect) (recordGot (c .processes) bytes r .next) ≡ On next → (ps tr′ : List ℕ) → Went c f time r i next (u .positions) tr ps tr′
+      → record { run = record { model = p .tables; positions = ps; words = p .words }; trace = tr′; turned = On next } ≡ stepOn c bytes i u tr
+  step-on next e ps tr′ g =
+      ap (λ (l : List ℕ). record { run = record { model = p .tables; positions = l; words = p .words }; trace = tr′; turned = On next })
+      (g .positions ∙ ap (λ (n : ℕ). set (u .positions) n next) ef)
+      ∙ ap (λ (l : List ℕ). record { run = record { model = p .tables; positions = set (u .positions) (placeNow c (u .model .axis)) next; words = p .words }; trace = l; turned = On next })
+      (g .trace ∙ ap (put tr i) line-is)
+      ∙ step-is (On next) (sym (ap (λ (n : ℕ). turnedBy (p .effect) (recordGot (c .processes) bytes n .next)) er) ∙ e)
+
+  -- current and its time are as they were
+  pub step-stays : stayed (p .effect) ≡ true → (p .tables .axis ≡ u .model .axis) × (p .tables .times ≡ u .model .times)
+  unfolding resolved
+  step-stays e =
+      let z = keeps c (u .model) (u .words) k
+      (still k q none
+      (λ o. ap (λ (j : Call). stayed (callEffect j)) (call-12 c (u .model .links) (placeNow c (u .model .axis)) q o))
+      (a .answer) (sym (ap (λ (o : Performed). stayed (o .effect)) same) ∙ e)) in
+      (ap (λ (o : Performed). o .tables .axis) same ∙ z .0, ap (λ (o : Performed). o .tables .times) same ∙ z .1)
+
+-- ---- the record that an accepted call leads to, from what it means
+
+module _ (v : Effect) (next n : ℕ) where
+  pub stays-to : v ≡ Stays → n ≡ next → turnedBy v next ≡ On n
+  stays-to e en = ap (λ (w : Effect). turnedBy w next) e ∙ ap On (sym en)
+
+  pub jumps-to : v ≡ Jumps n → turnedBy v next ≡ On n
+  jumps-to e = ap (λ (w : Effect). turnedBy w next) e
+
+  pub moves-to : v ≡ Moves → n ≡ next → turnedBy v next ≡ On n
+  moves-to e en = ap (λ (w : Effect). turnedBy w next) e ∙ ap On (sym en)

@@ -16,9 +16,7 @@ use Rattle.machine.specs.Machine.{Machine, withPosition}
 use Rattle.machine.specs.Calls.{perform}
 use Rattle.machine.specs.Steps.{callNow, nextNow}
 use Rattle.machine.specs.OnTables.{placeNow, Carried, carriedOut}
-use Rattle.runs.specs.declared.Turned.{Turned}
-use Rattle.runs.specs.declared.Turned.the-variants.{On, Refused as Off}
-use Rattle.runs.specs.Run.{RunTables, Stepped, callDue, turnedOf, moved, dueIn, lineIn, stepOn, endsNow, RanOn, stoppedOn, turnsOn}
+use Rattle.runs.specs.Run.{RunTables, Turned, On, Off, Stepped, callDue, turnedOf, moved, dueIn, lineIn, stepOn, endsNow, RanOn, stoppedOn, turnsOn}
 use Rattle.runs.specs.Standing.{Standing, sized, ready, positions-length, words-length}
 use Rattle.runs.specs.StepFollows.{StepIs, step-follows}
 

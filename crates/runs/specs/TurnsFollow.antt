@@ -21,8 +21,7 @@ use Rattle.machine.specs.Calls.{perform}
 use Rattle.machine.specs.Steps.{callNow, nextNow, Line, lineNow, Turn, ended, stepped, moving, step}
 use Rattle.machine.specs.Run.{atEnd, turn, stopped, alsoLine, turns}
 use Rattle.machine.specs.Run as machine
-use Rattle.runs.specs.declared.Turned.the-variants.{On, Refused as Off}
-use Rattle.runs.specs.Run.{RunTables, Stepped, stepOn, RanOn, stoppedOn, turnsOn}
+use Rattle.runs.specs.Run.{RunTables, On, Off, Stepped, stepOn, RanOn, stoppedOn, turnsOn}
 use Rattle.runs.specs.Standing.{Stands}
 use Rattle.runs.specs.Refine.{bytesOf, ends-is}
 use Rattle.runs.specs.StepFollows.{StepIs, step-follows}

@@ -9,8 +9,13 @@ pub struct Ran {
     pub end: End,
 }
 
-// Whether the run goes on after a step, and at which record the process does.
-pub enum Turned {
-    On(u32),
+// What a step's call means for the process that makes it.
+pub enum Effect {
+    // It stays current, and goes on at the record's next,
+    Stays,
+    // or at y, where 12 finds the head empty.
+    Jumps(u32),
+    // Another may be current now.
+    Moves,
     Refused(Refusal),
 }

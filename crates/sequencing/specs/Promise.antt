@@ -103,6 +103,12 @@ pub record First (m x : ℕ) (axis : List ℕ) : Type 0 where
 abbrev pub Led : ℕ → List ℕ → Type 0
 Led m a = First m (getD a (m - 1) 0) a
 
+-- x's notice is the first, and this is its time
+pub record Noticed (m x time : ℕ) (axis times : List ℕ) : Type 0 where
+  pub place : Place m (getD axis (m - 1) 0) x
+  pub read : Read x times time
+  pub within : time ≤ limit
+
 pub first-at : (m x : ℕ) (a : List ℕ) → Led m a → Place m (getD a (m - 1) 0) x → First m x a
 first-at m x a l p = subst (λ (y : ℕ). First m y a) (sym (p .is)) l
 

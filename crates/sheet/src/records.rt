@@ -6,7 +6,7 @@ use words::u32_at;
 ghost use mathlib.Core.Path.{_≡_};
 ghost use Prim.Native.Nat.{_+_, _≤_};
 ghost use lib.ListN.{length};
-ghost use Rattle.sheet.specs.Sheet.{startOffset, startAt, recordOffset, recordFrom, recordWith};
+ghost use Rattle.sheet.specs.Sheet.{startOffset, startAt, recordOffset, recordFrom};
 
 // A record's fields, t as a signed number.
 pub struct Record {
@@ -26,17 +26,61 @@ pub fn record_offset(processes: u32, r: u32) -> usize
     16 + 4 * wide(processes) + 24 * (wide(r) - 1)
 }
 
-// The record whose 24 bytes begin at i.
+// ---- the fields of the record whose 24 bytes begin at i
+
+pub fn next_at(sheet: &[u8], i: usize) -> u32
+    requires { ⌜ i + 24 ≤ length (now sheet) ⌝ }
+    ensures { λ r. ⌜ r ≡ recordFrom (now (sheet .entry)) i .next ⌝ }
+{
+    u32_at(sheet, i)
+}
+
+pub fn operation_at(sheet: &[u8], i: usize) -> u8
+    requires { ⌜ i + 24 ≤ length (now sheet) ⌝ }
+    ensures { λ r. ⌜ r ≡ recordFrom (now (sheet .entry)) i .operation ⌝ }
+{
+    u8_at(sheet, i + 4)
+}
+
+pub fn clause_at(sheet: &[u8], i: usize) -> u8
+    requires { ⌜ i + 24 ≤ length (now sheet) ⌝ }
+    ensures { λ r. ⌜ r ≡ recordFrom (now (sheet .entry)) i .clause ⌝ }
+{
+    u8_at(sheet, i + 5)
+}
+
+pub fn x_at(sheet: &[u8], i: usize) -> u32
+    requires { ⌜ i + 24 ≤ length (now sheet) ⌝ }
+    ensures { λ r. ⌜ r ≡ recordFrom (now (sheet .entry)) i .x ⌝ }
+{
+    u32_at(sheet, i + 8)
+}
+
+pub fn y_at(sheet: &[u8], i: usize) -> u32
+    requires { ⌜ i + 24 ≤ length (now sheet) ⌝ }
+    ensures { λ r. ⌜ r ≡ recordFrom (now (sheet .entry)) i .y ⌝ }
+{
+    u32_at(sheet, i + 12)
+}
+
+pub fn t_at(sheet: &[u8], i: usize) -> i64
+    requires { ⌜ i + 24 ≤ length (now sheet) ⌝ }
+    ensures { λ r. ⌜ r ≡ recordFrom (now (sheet .entry)) i .t ⌝ }
+{
+    i64_at(sheet, i + 16)
+}
+
+// All of them.
 pub fn record_from(sheet: &[u8], i: usize) -> Record
     requires { ⌜ i + 24 ≤ length (now sheet) ⌝ }
     ensures { λ q. ⌜ q ≡ recordFrom (now (sheet .entry)) i ⌝ }
 {
-    let next = u32_at(sheet, i);
-    let operation = u8_at(sheet, i + 4);
-    let clause = u8_at(sheet, i + 5);
-    let x = u32_at(sheet, i + 8);
-    let y = u32_at(sheet, i + 12);
-    let t = i64_at(sheet, i + 16);
+    let next = next_at(sheet, i);
+    let operation = operation_at(sheet, i);
+    let clause = clause_at(sheet, i);
+    let x = x_at(sheet, i);
+    let y = y_at(sheet, i);
+    let t = t_at(sheet, i);
     Record {
         next,
         operation,
@@ -45,15 +89,6 @@ pub fn record_from(sheet: &[u8], i: usize) -> Record
         y,
         t,
     }
-}
-
-// Record r of a sheet with so many processes.
-pub fn record_at(sheet: &[u8], processes: u32, r: u32) -> Record
-    requires { ⌜ 1 ≤ r ⌝ }
-    requires { ⌜ recordOffset processes r + 24 ≤ length (now sheet) ⌝ }
-    ensures { λ q. ⌜ q ≡ recordWith processes (now (sheet .entry)) r ⌝ }
-{
-    record_from(sheet, record_offset(processes, r))
 }
 
 // The record where the p-th process begins.

@@ -15,7 +15,7 @@ ghost use Prim.Native.Nat.{_<_, _≤_};
 ghost use Rattle.rings.specs.Table.{Sound};
 ghost use Rattle.counts.specs.Counts.{limit};
 ghost use Rattle.sequencing.specs.Procedures.{heldAt, held, passivated, cancelled, finishedMarks};
-ghost use Rattle.sequencing.specs.Promise.{sqs, Left, Answers, AnswersMarked, First, Led};
+ghost use Rattle.sequencing.specs.Promise.{sqs, Left, Answers, AnswersMarked, First, Led, Noticed};
 
 // x's notice gets the time u; where the next is due by then, it goes behind all due by then.
 pub(crate) fn hold_at(axis: &mut [u32], m: usize, times: &mut [u64], x: u32, u: u64)
@@ -37,7 +37,28 @@ pub(crate) fn hold_at(axis: &mut [u32], m: usize, times: &mut [u64], x: u32, u: 
     move_to(axis, m, times, x, u + 1, u);
 }
 
-// Hold; d is T where that is above 0, else 0.
+// Hold by the first notice, x's, whose time is given; d is T where that is above 0, else 0.
+pub(crate) fn hold_first(
+    axis: &mut [u32],
+    m: usize,
+    times: &mut [u64],
+    x: u32,
+    time: u64,
+    d: u64,
+) -> Answer
+    requires { ⌜ Sound m (now axis) ⌝ }
+    requires { ⌜ Led m (now axis) ⌝ }
+    requires { ⌜ Noticed m x time (now axis) (now times) ⌝ }
+    ensures { λ r. ⌜ Answers m (held m d (sqs (now (axis .entry)) (now (times .entry)))) (now (axis .exit)) (now (times .exit)) r ⌝ }
+{
+    if d > TIME_LIMIT - time {
+        return Answer::Refused(Refusal::TimeLimit);
+    }
+    hold_at(axis, m, times, x, time + d);
+    Answer::Done
+}
+
+// Hold.
 pub(crate) fn hold(axis: &mut [u32], m: usize, times: &mut [u64], d: u64) -> Answer
     requires { ⌜ Sound m (now axis) ⌝ }
     requires { ⌜ Led m (now axis) ⌝ }
@@ -48,11 +69,7 @@ pub(crate) fn hold(axis: &mut [u32], m: usize, times: &mut [u64], d: u64) -> Ans
     if time > TIME_LIMIT {
         return Answer::Refused(Refusal::TimeLimit);
     }
-    if d > TIME_LIMIT - time {
-        return Answer::Refused(Refusal::TimeLimit);
-    }
-    hold_at(axis, m, times, c, time + d);
-    Answer::Done
+    hold_first(axis, m, times, c, time, d)
 }
 
 // Passivate.

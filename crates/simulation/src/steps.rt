@@ -18,7 +18,7 @@ ghost use Rattle.counts.specs.Counts.{isProcess, total};
 ghost use Rattle.sets.specs.Calls.{orNone};
 ghost use Rattle.sequencing.specs.Plain.{timedNeed};
 ghost use Rattle.sequencing.specs.Calls.{half, yPlace, holdStep, passivateStep, cancelStep, timedStep, finishStep, waitStep};
-ghost use Rattle.sequencing.specs.Promise.{sqs, Answers, Judged};
+ghost use Rattle.sequencing.specs.Promise.{sqs, Answers, Judged, Noticed};
 ghost use Rattle.sequencing.specs.StepPromise.{FinishMade, WaitMade};
 
 // A process, or none.
@@ -38,6 +38,17 @@ pub fn hold(c: Counts, axis: &mut [u32], times: &mut [u64], t: i64) -> Answer
     let p = wide(c.processes);
     let d = above_zero(t);
     procedures::hold(axis, p + 2, times, d)
+}
+
+// Hold, where current's place and time are known.
+pub fn hold_now(c: Counts, axis: &mut [u32], times: &mut [u64], f: u32, time: u64, t: i64) -> Answer
+    requires { ⌜ Judged c (now axis) ⌝ }
+    requires { ⌜ Noticed (half c) f time (now axis) (now times) ⌝ }
+    ensures { λ r. ⌜ Answers (half c) (holdStep c t (sqs (now (axis .entry)) (now (times .entry)))) (now (axis .exit)) (now (times .exit)) r ⌝ }
+{
+    let p = wide(c.processes);
+    let d = above_zero(t);
+    procedures::hold_first(axis, p + 2, times, f, time, d)
 }
 
 pub fn passivate(c: Counts, axis: &mut [u32], times: &mut [u64]) -> Answer

@@ -1,79 +1,121 @@
-// The call of a record whose operands are resolved, on judged tables.
+// The call of the record that current is at, on judged tables, and what it means for current.
+use crate::arms::accum_of;
+use crate::arms::cancel_of;
+use crate::arms::clear_of;
+use crate::arms::follow_of;
+use crate::arms::hold_of;
+use crate::arms::into_of;
+use crate::arms::out_of;
+use crate::arms::precede_of;
+use crate::arms::timed_of;
+use crate::arms::wait_of;
+use crate::reading::x_of;
 use counts::Counts;
 use counts::Refusal;
 use model::answer::Answer;
-use sheet::records::Record;
-use simset::steps::clear;
-use simset::steps::follow;
-use simset::steps::into;
-use simset::steps::out;
-use simset::steps::precede;
-use simulation::steps::activate;
-use simulation::steps::cancel;
+use ring::wide;
+use runs::Effect;
+use sheet::records::operation_at;
+use sheet::records::record_offset;
+use sheet::records::y_at;
 use simulation::steps::finish;
-use simulation::steps::hold;
 use simulation::steps::passivate;
-use simulation::steps::wait;
-use updating::flat::update_in;
 ghost use mathlib.Core.Path.{_≡_};
-ghost use Rattle.counts.specs.Counts.{isHead};
-ghost use Rattle.model.specs.declared.answer.Answer.the-variants.{Done};
-ghost use Rattle.sets.specs.Calls.{telling};
-ghost use Rattle.machine.specs.OnTables.{carriedOut};
-ghost use Rattle.runs.specs.Needs.{Performable};
-ghost use Rattle.runs.specs.Run.{callDue};
+ghost use mathlib.Core.Logic.{_≢_};
+ghost use Rattle.model.specs.Ready.{Ready};
+ghost use Rattle.sheet.specs.Sheet.{recordOffset, recordFrom};
+ghost use Rattle.runs.specs.Needs.{XReadable, Performable};
+ghost use Rattle.runs.specs.Run.{recordGot};
+ghost use Rattle.runs.specs.Performed.{unlessRefused, branched, performed};
 
-// 12: x is a head, or refusal 3.
-pub(crate) fn head_asked(c: Counts, x: u32) -> Answer
-    ensures { λ r. ⌜ r ≡ telling (isHead c x) Done ⌝ }
+// An accepted call means e.
+fn unless_refused(a: Answer, e: Effect) -> Effect
+    ensures { λ r. ⌜ r ≡ unlessRefused a e ⌝ }
 {
+    match a {
+        Answer::Done => e,
+        Answer::Linkage(_) => e,
+        Answer::Number(_) => e,
+        Answer::Truth(_) => e,
+        Answer::Refused(q) => Effect::Refused(q),
+    }
+}
+
+// 12: x is a head, or refusal 3; where it is empty, the process goes to y.
+fn branch(c: Counts, sheet: &[u8], i: usize, links: &[u32], f: u32) -> Effect
+    requires { ⌜ XReadable c (now sheet) i (now links) f ⌝ }
+    ensures { λ r. ⌜ r ≡ branched c (recordFrom (now (sheet .entry)) i) f (now (links .entry)) ⌝ }
+{
+    let x = x_of(c, sheet, i, links, f);
     let ok = c.is_head(x);
     if !ok {
-        return Answer::Refused(Refusal::Operand);
+        return Effect::Refused(Refusal::Operand);
     }
-    Answer::Done
+    let h = wide(x);
+    if links[h] == x {
+        return Effect::Jumps(y_at(sheet, i));
+    }
+    Effect::Stays
 }
 
-fn wide_clause(k: u8) -> u32
-    ensures { λ r. ⌜ r ≡ k ⌝ }
-{
-    k as u32
-}
-
-// One arm for each operation, and one for activate and reactivate; 0 is finish.
-pub(crate) fn perform(
+// The record whose bytes begin at i: one arm for each operation, and one for activate and reactivate.
+fn perform_at(
     c: Counts,
-    d: Record,
+    sheet: &[u8],
+    i: usize,
+    f: u32,
+    time: u64,
+    links: &mut [u32],
+    axis: &mut [u32],
+    times: &mut [u64],
+    marks: &[u8],
+    accums: &mut [i64],
+) -> Effect
+    requires { ⌜ Performable c (now sheet) i f time (record { links = now links; axis = now axis; times = now times; marks = now marks }) (now accums) ⌝ }
+    ensures { λ r. ⌜ record { tables = record { links = now (links .exit); axis = now (axis .exit); times = now (times .exit); marks = now (marks .exit) }; words = now (accums .exit); effect = r }
+        ≡ performed c (recordFrom (now (sheet .entry)) i) f (record { links = now (links .entry); axis = now (axis .entry); times = now (times .entry); marks = now (marks .entry) }) (now (accums .entry)) ⌝ }
+{
+    let op = operation_at(sheet, i);
+    match op {
+        1 => unless_refused(out_of(c, sheet, i, links, f), Effect::Stays),
+        2 => unless_refused(follow_of(c, sheet, i, links, f), Effect::Stays),
+        3 => unless_refused(precede_of(c, sheet, i, links, f), Effect::Stays),
+        4 => unless_refused(into_of(c, sheet, i, links, f), Effect::Stays),
+        5 => unless_refused(clear_of(c, sheet, i, links, f), Effect::Stays),
+        6 => unless_refused(hold_of(c, sheet, i, axis, times, f, time), Effect::Moves),
+        7 => unless_refused(passivate(c, axis, times), Effect::Moves),
+        8 => unless_refused(wait_of(c, sheet, i, links, axis, times, f), Effect::Moves),
+        9 => unless_refused(cancel_of(c, sheet, i, links, axis, times, f), Effect::Moves),
+        12 => branch(c, sheet, i, links, f),
+        13 => unless_refused(accum_of(sheet, i, accums, time), Effect::Stays),
+        _ => unless_refused(
+            timed_of(c, sheet, i, links, axis, times, marks, f, op == 11),
+            Effect::Moves,
+        ),
+    }
+}
+
+// Record r, or finish at 0; f is current's place, and time its time.
+pub fn perform(
+    c: Counts,
+    sheet: &[u8],
+    r: u32,
+    f: u32,
     time: u64,
     links: &mut [u32],
     axis: &mut [u32],
     times: &mut [u64],
     marks: &mut [u8],
     accums: &mut [i64],
-) -> Answer
-    requires { ⌜ Performable c d time (record { links = now links; axis = now axis; times = now times; marks = now marks }) (now accums) ⌝ }
-    ensures { λ r. ⌜ record { tables = record { links = now (links .exit); axis = now (axis .exit); times = now (times .exit); marks = now (marks .exit) }; words = now (accums .exit); answer = r }
-        ≡ carriedOut c (callDue d) (record { links = now (links .entry); axis = now (axis .entry); times = now (times .entry); marks = now (marks .entry) }) (now (accums .entry)) ⌝ }
+) -> Effect
+    requires { ⌜ (r ≢ 0 → Performable c (now sheet) (recordOffset (c .processes) r) f time (record { links = now links; axis = now axis; times = now times; marks = now marks }) (now accums)) ⌝ }
+    requires { ⌜ Ready c (record { links = now links; axis = now axis; times = now times; marks = now marks }) ⌝ }
+    ensures { λ v. ⌜ record { tables = record { links = now (links .exit); axis = now (axis .exit); times = now (times .exit); marks = now (marks .exit) }; words = now (accums .exit); effect = v }
+        ≡ performed c (recordGot (c .processes) (now (sheet .entry)) r) f (record { links = now (links .entry); axis = now (axis .entry); times = now (times .entry); marks = now (marks .entry) }) (now (accums .entry)) ⌝ }
 {
-    let op = d.operation;
-    let k = wide_clause(d.clause);
-    let x = d.x;
-    let y = d.y;
-    let t = d.t;
-    let again = op == 11;
-    match op {
-        0 => finish(c, axis, times, marks),
-        1 => out(c, links, x),
-        2 => follow(c, links, x, y),
-        3 => precede(c, links, x, y),
-        4 => into(c, links, x, y),
-        5 => clear(c, links, x),
-        6 => hold(c, axis, times, t),
-        7 => passivate(c, axis, times),
-        8 => wait(c, links, axis, times, y),
-        9 => cancel(c, axis, times, x),
-        12 => head_asked(c, x),
-        13 => update_in(accums, x, time, t),
-        _ => activate(c, axis, times, marks, again, k, x, y, t),
+    if r == 0 {
+        return unless_refused(finish(c, axis, times, marks), Effect::Moves);
     }
+    let i = record_offset(c.processes, r);
+    perform_at(c, sheet, i, f, time, links, axis, times, marks, accums)
 }

@@ -1,24 +1,23 @@
-// Reading a run's tables: current's place, the record it is at, and that record's operands.
+// Reading a run's tables: current's place, time and record, and the operands of a record.
 use counts::Counts;
 use ring::wide;
-use sheet::records::Record;
-use sheet::records::record_at;
+use sheet::records::next_at;
+use sheet::records::record_offset;
+use sheet::records::x_at;
+use sheet::records::y_at;
 use simset::procedures::link_or;
 ghost use mathlib.Core.Path.{_≡_};
 ghost use mathlib.Core.Logic.{_≢_};
+ghost use mathlib.Core.Bool.{true, _&&_};
 ghost use Prim.Native.Nat.{_+_, _≤_, _<_};
-ghost use mathlib.Core.Bool.{_&&_};
 ghost use lib.Dec.{eqb};
 ghost use lib.ListN.{length, getD};
-ghost use Rattle.rings.specs.Table.{Sound};
-ghost use Rattle.counts.specs.Counts.{total};
-ghost use Rattle.sets.specs.Procedures.{emptyOf};
 ghost use Rattle.sequencing.specs.Promise.{Judged};
-ghost use Rattle.sheet.specs.Sheet.{recordOffset};
-ghost use Rattle.machine.specs.Steps.{nextOf};
-ghost use Rattle.machine.specs.OnTables.{placeNow, operandAt};
-ghost use Rattle.runs.specs.Needs.{Readable};
-ghost use Rattle.runs.specs.Run.{recordGot, dueNow, endsNow};
+ghost use Rattle.sheet.specs.Sheet.{recordOffset, recordFrom};
+ghost use Rattle.sheet.specs.Accepted.{isOperand};
+ghost use Rattle.machine.specs.OnTables.{placeNow, operandWith};
+ghost use Rattle.runs.specs.Needs.{Resolvable, XReadable, YReadable};
+ghost use Rattle.runs.specs.Run.{recordGot};
 
 // Current's place in the axis.
 pub fn place_now(c: Counts, axis: &[u32]) -> u32
@@ -28,20 +27,25 @@ pub fn place_now(c: Counts, axis: &[u32]) -> u32
     axis[wide(c.processes) + 1]
 }
 
-// Main is current at position 0.
-pub fn ends_now(c: Counts, axis: &[u32], positions: &[u32]) -> bool
-    requires { ⌜ Judged c (now axis) ⌝ }
-    requires { ⌜ length (now positions) ≡ c .processes + 1 ⌝ }
-    ensures { λ r. ⌜ r ≡ endsNow c (now (axis .entry)) (now (positions .entry)) ⌝ }
+// The time of the notice at a place.
+pub fn time_of(times: &[u64], f: u32) -> u64
+    requires { ⌜ f < length (now times) ⌝ }
+    ensures { λ r. ⌜ r ≡ getD (now (times .entry)) f 0 ⌝ }
 {
-    let f = place_now(c, axis);
-    if f != 1 {
-        return false;
-    }
-    positions[1] == 0
+    let p = wide(f);
+    times[p]
 }
 
-// Where the process at a place is; at is the position at the place last.
+// Where the process at a place is.
+pub fn record_of(positions: &[u32], f: u32) -> u32
+    requires { ⌜ f < length (now positions) ⌝ }
+    ensures { λ r. ⌜ r ≡ getD (now (positions .entry)) f 0 ⌝ }
+{
+    let p = wide(f);
+    positions[p]
+}
+
+// The same, where the place last is at the record at: a process that stays current needs no read.
 pub fn position(positions: &[u32], f: u32, last: u32, at: u32) -> u32
     requires { ⌜ f < length (now positions) ⌝ }
     requires { ⌜ at ≡ getD (now positions) last 0 ⌝ }
@@ -50,8 +54,7 @@ pub fn position(positions: &[u32], f: u32, last: u32, at: u32) -> u32
     if f == last {
         return at;
     }
-    let p = wide(f);
-    positions[p]
+    record_of(positions, f)
 }
 
 // Main is at place 1, and it is at position 0.
@@ -64,73 +67,44 @@ pub fn is_end(f: u32, r: u32) -> bool
     f == 1
 }
 
-// The linkage that an operand stands for.
-pub(crate) fn operand(c: Counts, links: &[u32], axis: &[u32], v: u32) -> u32
-    requires { ⌜ Judged c (now axis) ⌝ }
-    requires { ⌜ Sound (total c + 1) (now links) ⌝ }
-    requires { ⌜ v ≤ 65536 + c .heads ⌝ }
-    ensures { λ r. ⌜ r ≡ operandAt c (now (links .entry)) (now (axis .entry)) v ⌝ }
+// The next of record r; of the one that stands for finish, 0.
+pub fn next_of(sheet: &[u8], processes: u32, r: u32) -> u32
+    requires { ⌜ (r ≢ 0 → recordOffset processes r + 24 ≤ length (now sheet)) ⌝ }
+    ensures { λ n. ⌜ n ≡ recordGot processes (now (sheet .entry)) r .next ⌝ }
 {
-    if v < 65536 {
+    if r == 0 {
+        return 0;
+    }
+    next_at(sheet, record_offset(processes, r))
+}
+
+// The linkage that an operand stands for; f is current's place.
+pub(crate) fn operand(c: Counts, links: &[u32], f: u32, v: u32) -> u32
+    requires { ⌜ Resolvable c (now links) f ⌝ }
+    requires { ⌜ isOperand c v ≡ true ⌝ }
+    ensures { λ r. ⌜ r ≡ operandWith c (now (links .entry)) f v ⌝ }
+{
+    if wide(v) <= c.total() {
         return v;
     }
     if v == 65536 {
-        return c.heads + place_now(c, axis);
+        return c.heads + f;
     }
     let h = wide(v - 65536);
     link_or(c.heads, links[h])
 }
 
-// The record that a process is at; at 0 one of operation 0, which stands for finish.
-pub(crate) fn record_got(sheet: &[u8], processes: u32, r: u32) -> Record
-    requires { ⌜ (r ≢ 0 → recordOffset processes r + 24 ≤ length (now sheet)) ⌝ }
-    ensures { λ q. ⌜ q ≡ recordGot processes (now (sheet .entry)) r ⌝ }
+// What x, and y, stand for in the record whose bytes begin at i.
+pub(crate) fn x_of(c: Counts, sheet: &[u8], i: usize, links: &[u32], f: u32) -> u32
+    requires { ⌜ XReadable c (now sheet) i (now links) f ⌝ }
+    ensures { λ r. ⌜ r ≡ operandWith c (now (links .entry)) f (recordFrom (now (sheet .entry)) i .x) ⌝ }
 {
-    if r == 0 {
-        return Record {
-            next: 0,
-            operation: 0,
-            clause: 0,
-            x: 0,
-            y: 0,
-            t: 0,
-        };
-    }
-    record_at(sheet, processes, r)
+    operand(c, links, f, x_at(sheet, i))
 }
 
-// Where the process goes: to y if this is 12 and head x is empty.
-pub(crate) fn next_of(q: Record, links: &[u32], x: u32) -> u32
-    requires { ⌜ (q .operation ≡ 12 → x < length (now links)) ⌝ }
-    ensures { λ r. ⌜ r ≡ nextOf q (emptyOf x (now (links .entry))) ⌝ }
+pub(crate) fn y_of(c: Counts, sheet: &[u8], i: usize, links: &[u32], f: u32) -> u32
+    requires { ⌜ YReadable c (now sheet) i (now links) f ⌝ }
+    ensures { λ r. ⌜ r ≡ operandWith c (now (links .entry)) f (recordFrom (now (sheet .entry)) i .y) ⌝ }
 {
-    if q.operation != 12 {
-        return q.next;
-    }
-    let h = wide(x);
-    if links[h] == x {
-        return q.y;
-    }
-    q.next
-}
-
-// The record that current is at, with its operands resolved and next where it goes.
-pub(crate) fn due(c: Counts, sheet: &[u8], r: u32, links: &[u32], axis: &[u32]) -> Record
-    requires { ⌜ Judged c (now axis) ⌝ }
-    requires { ⌜ Sound (total c + 1) (now links) ⌝ }
-    requires { ⌜ Readable c (now sheet) (now links) (now axis) r ⌝ }
-    ensures { λ d. ⌜ d ≡ dueNow c (now (sheet .entry)) (now (links .entry)) (now (axis .entry)) r ⌝ }
-{
-    let q = record_got(sheet, c.processes, r);
-    let x = operand(c, links, axis, q.x);
-    let y = operand(c, links, axis, q.y);
-    let next = next_of(q, links, x);
-    Record {
-        next,
-        operation: q.operation,
-        clause: q.clause,
-        x,
-        y,
-        t: q.t,
-    }
+    operand(c, links, f, y_at(sheet, i))
 }

@@ -1,6 +1,9 @@
+use Rattle.host.specs.Arrays.{links-in, axis-in, one-in, links-part, axis-part, one-part, lent-startable}
 use Rattle.host.specs.Host.{host-8, host-long, host-run}
-use mathlib.Core.Path.{sym, _∙_}
+use Rattle.runs.specs.Run.{RanOn}
+use mathlib.Core.Path.{sym, ap, _∙_}
 use borrow.Author.Needs.{needs}
+use native.Mathlib.Omega.{arith}
 use Rattle.host.proofs.nodbrize_run.Statement.{statement}
 use Rattle.host.proofs.nodbrize_run.Tie as tie
 
@@ -20,22 +23,76 @@ refused-requires-2 : tie.Need-refused-requires-2
 refused-requires-2 c κs = search needs
 
 returns : tie.Need-returns
-returns c = host-long ((c .before .before .before .before .before .before .before .before .args .sheet .now)) ((c .before .before .before .before .before .before .before .before .args .trace .now)) _ ((c .before .before .before .before .before .check .ensures)) _ ((c .before .before .before .read2 .given .1)) ((c .before .if1 .taken)) _ ((c .refused2 .ensures))
+returns c = host-long (c .before .before .before .before .before .before .before .before .args .sheet .now) (c .before .before .before .before .before .before .before .before .args .trace .now) _ (c .before .before .before .before .before .check .ensures) _ (c .before .before .before .read2 .given .1) (c .before .if1 .taken) _ (c .refused2 .ensures)
 
-run-here-requires : tie.Need-run-here-requires
-run-here-requires c κs = (sym ((c .before .before .before .before .before .check .ensures)) ∙ (c .before .before .before .read2 .given .1), (c .before .if1 .left))
+total-requires : tie.Need-total-requires
+total-requires c κs = search needs
+
+add-n : tie.Need-add-n
+add-n c = search needs
+
+wide-requires : tie.Need-wide-requires
+wide-requires c κs = search needs
+
+add-p : tie.Need-add-p
+add-p c = search needs
+
+mul-links : tie.Need-mul-links
+mul-links c = search needs
+
+array-borrow-prefix-links : tie.Need-array-borrow-prefix-links
+array-borrow-prefix-links c = links-in (c .before .before .before .before .before .before .before .before .before .before .args .sheet .now) _ (sym (c .before .before .before .before .before .before .before .check .ensures) ∙ c .before .before .before .before .before .read2 .given .1) _ (c .before .total .ensures) _ (c .wide .ensures)
+
+slice-aggregate-start : tie.Need-slice-aggregate-start
+slice-aggregate-start c = links-part (c .before .before .before .before .before .before .before .before .before .before .before .args .sheet .now) _ (sym (c .before .before .before .before .before .before .before .before .check .ensures) ∙ c .before .before .before .before .before .before .read2 .given .1) _ (c .before .before .total .ensures) _ (c .before .wide .ensures)
+
+add-axis : tie.Need-add-axis
+add-axis c = search needs
+
+mul-axis : tie.Need-mul-axis
+mul-axis c = search needs
+
+array-borrow-prefix-axis : tie.Need-array-borrow-prefix-axis
+array-borrow-prefix-axis c = axis-in (c .before .before .before .before .before .before .before .before .before .before .before .args .sheet .now) _ (sym (c .before .before .before .before .before .before .before .before .check .ensures) ∙ c .before .before .before .before .before .before .read2 .given .1) _ (c .before .before .total .ensures) _ (c .before .wide .ensures)
+
+slice-aggregate-start-2 : tie.Need-slice-aggregate-start-2
+slice-aggregate-start-2 c = axis-part (c .before .before .before .before .before .before .before .before .before .before .before .before .args .sheet .now) _ (sym (c .before .before .before .before .before .before .before .before .before .check .ensures) ∙ c .before .before .before .before .before .before .before .read2 .given .1) _ (c .before .before .before .total .ensures) _ (c .before .before .wide .ensures)
+
+array-borrow-prefix-times : tie.Need-array-borrow-prefix-times
+array-borrow-prefix-times c = one-in (c .before .before .before .before .before .before .before .before .before .before .before .before .args .sheet .now) _ (sym (c .before .before .before .before .before .before .before .before .before .check .ensures) ∙ c .before .before .before .before .before .before .before .read2 .given .1) _ (c .before .before .before .total .ensures) _ (c .before .before .wide .ensures)
+
+slice-aggregate-start-3 : tie.Need-slice-aggregate-start-3
+slice-aggregate-start-3 c = one-part (c .before .before .before .before .before .before .before .before .before .before .before .before .before .args .sheet .now) _ (sym (c .before .before .before .before .before .before .before .before .before .before .check .ensures) ∙ c .before .before .before .before .before .before .before .before .read2 .given .1) _ (c .before .before .before .before .total .ensures) _ (c .before .before .before .wide .ensures)
+
+array-borrow-prefix-marks : tie.Need-array-borrow-prefix-marks
+array-borrow-prefix-marks c = one-in (c .before .before .before .before .before .before .before .before .before .before .before .before .before .args .sheet .now) _ (sym (c .before .before .before .before .before .before .before .before .before .before .check .ensures) ∙ c .before .before .before .before .before .before .before .before .read2 .given .1) _ (c .before .before .before .before .total .ensures) _ (c .before .before .before .wide .ensures)
+
+slice-aggregate-start-4 : tie.Need-slice-aggregate-start-4
+slice-aggregate-start-4 c = one-part (c .before .before .before .before .before .before .before .before .before .before .before .before .before .before .args .sheet .now) _ (sym (c .before .before .before .before .before .before .before .before .before .before .before .check .ensures) ∙ c .before .before .before .before .before .before .before .before .before .read2 .given .1) _ (c .before .before .before .before .before .total .ensures) _ (c .before .before .before .before .wide .ensures)
+
+array-borrow-prefix-positions : tie.Need-array-borrow-prefix-positions
+array-borrow-prefix-positions c = one-in (c .before .before .before .before .before .before .before .before .before .before .before .before .before .before .args .sheet .now) _ (sym (c .before .before .before .before .before .before .before .before .before .before .before .check .ensures) ∙ c .before .before .before .before .before .before .before .before .before .read2 .given .1) _ (c .before .before .before .before .before .total .ensures) _ (c .before .before .before .before .wide .ensures)
+
+slice-aggregate-start-5 : tie.Need-slice-aggregate-start-5
+slice-aggregate-start-5 c = one-part (c .before .before .before .before .before .before .before .before .before .before .before .before .before .before .before .args .sheet .now) _ (sym (c .before .before .before .before .before .before .before .before .before .before .before .before .check .ensures) ∙ c .before .before .before .before .before .before .before .before .before .before .read2 .given .1) _ (c .before .before .before .before .before .before .total .ensures) _ (c .before .before .before .before .before .wide .ensures)
+
+slice-aggregate-start-6 : tie.Need-slice-aggregate-start-6
+slice-aggregate-start-6 c = search needs
+
+start-requires : tie.Need-start-requires
+start-requires c κs = lent-startable (c .before .before .before .before .before .before .before .before .before .before .before .before .before .before .before .before .before .args .sheet .now) _ (sym (c .before .before .before .before .before .before .before .before .before .before .before .before .before .before .check .ensures) ∙ c .before .before .before .before .before .before .before .before .before .before .before .before .read2 .given .1) _ (c .before .before .before .before .before .before .before .before .total .ensures) _ (c .before .before .before .before .before .before .before .wide .ensures) _ (c .before .before .before .before .before .before .before .before .before .before .if1 .left)
 
 number-requires : tie.Need-number-requires
 number-requires c κs = search needs
 
 returns-2 : tie.Need-returns-2
-returns-2 c = host-8 ((c .before .before .before .before .before .before .before .args .sheet .now)) ((c .before .before .before .before .before .before .before .args .trace .now)) _ ((c .before .before .before .before .check .ensures)) _ _ ((c .before .before .read .given .1)) ((c .refused .ensures))
+returns-2 c = host-8 (c .before .before .before .before .before .before .before .args .sheet .now) (c .before .before .before .before .before .before .before .args .trace .now) _ (c .before .before .before .before .check .ensures) _ _ (c .before .before .read .given .1) (c .refused .ensures)
 
 same-length : tie.Need-same-length
 same-length c = search needs
 
 returns-3 : tie.Need-returns-3
-returns-3 c = host-run ((c .before .before .before .before .before .before .before .before .before .before .before .before .args .sheet .now)) ((c .before .before .before .before .before .before .before .before .before .before .before .before .args .trace .now)) _ ((c .before .before .before .before .before .before .before .before .before .check .ensures)) _ ((c .before .before .before .before .before .before .before .read2 .given .1)) ((c .before .before .before .before .before .if1 .left)) _ _ _ ((c .before .before .before .run-here .ensures)) ((c .number .ensures))
+returns-3 c = host-run (c .before .before .before .before .before .before .before .before .before .before .before .before .before .before .before .before .before .before .before .before .before .before .before .before .before .before .before .args .sheet .now) (c .before .before .before .before .before .before .before .before .before .before .before .before .before .before .before .before .before .before .before .before .before .before .before .before .before .before .before .args .trace .now) _ (c .before .before .before .before .before .before .before .before .before .before .before .before .before .before .before .before .before .before .before .before .before .before .before .before .check .ensures) _ (c .before .before .before .before .before .before .before .before .before .before .before .before .before .before .before .before .before .before .before .before .before .before .read2 .given .1) (c .before .before .before .before .before .before .before .before .before .before .before .before .before .before .before .before .before .before .before .before .if1 .left) _ _ _ (ap (λ (o : RanOn). record { trace = o .trace; result = o .result }) (c .before .before .before .before .before .before .before .before .before .start .ensures)) (c .number .ensures)
 
 pub nodbrize-run-spec : {M : Type 1} → statement M
 nodbrize-run-spec =
@@ -47,7 +104,25 @@ nodbrize-run-spec =
     enum-known-read-2
     refused-requires-2
     returns
-    run-here-requires
+    total-requires
+    add-n
+    wide-requires
+    add-p
+    mul-links
+    array-borrow-prefix-links
+    slice-aggregate-start
+    add-axis
+    mul-axis
+    array-borrow-prefix-axis
+    slice-aggregate-start-2
+    array-borrow-prefix-times
+    slice-aggregate-start-3
+    array-borrow-prefix-marks
+    slice-aggregate-start-4
+    array-borrow-prefix-positions
+    slice-aggregate-start-5
+    slice-aggregate-start-6
+    start-requires
     number-requires
     returns-2
     same-length

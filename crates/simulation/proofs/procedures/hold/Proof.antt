@@ -1,5 +1,7 @@
-use Rattle.sequencing.specs.Promise.{first-at}
-use Rattle.simulation.proofs.Chained.{hold-5, hold-0}
+use mathlib.Core.Path.{_∙_, ap}
+use lib.ListN.{getD}
+use Prim.Native.Nat.{ℕ}
+use Rattle.simulation.proofs.Chained.{hold-5}
 use borrow.Author.Needs.{needs}
 use native.Mathlib.Omega.{arith}
 use Rattle.simulation.proofs.procedures.hold.Statement.{statement}
@@ -21,7 +23,10 @@ same-length-2 : tie.Need-same-length-2
 same-length-2 c = search needs
 
 returns : tie.Need-returns
-returns c = hold-5 _ _ _ _ _ _ _ (c .before .before .before .before .first .ensures) (c .before .before .wide .ensures) (c .before .due .ensures) (c .before .before .before .before .before .before .before .before .pre .0) (omega (arith, (c .if1 .taken)))
+returns c = hold-5 _ _ _ _ _ _ _ (c .before .before .before .before .first .ensures) (c .before .before .wide .ensures) (c .before .due .ensures) (c .before .before .before .before .before .before .before .before .pre .0) (omega (arith, c .if1 .taken))
+
+hold-first-requires : tie.Need-hold-first-requires
+hold-first-requires c κs = (c .before .before .before .before .before .before .before .before .before .before .pre .0, (c .before .before .before .before .before .before .before .before .before .before .pre .1, record { place = c .before .before .before .before .before .before .first .ensures; read = record { is = c .before .before .before .due .ensures .is ∙ ap (λ (j : ℕ). getD (c .before .before .before .before .before .before .before .before .before .before .args .times .now) j 0) (c .before .before .before .before .wide .ensures) }; within = omega (arith, c .before .before .if1 .left) }))
 
 same-length-3 : tie.Need-same-length-3
 same-length-3 c = search needs
@@ -30,22 +35,7 @@ same-length-4 : tie.Need-same-length-4
 same-length-4 c = search needs
 
 returns-2 : tie.Need-returns-2
-returns-2 c = hold-5 _ _ _ _ _ _ _ (c .before .before .before .before .before .first .ensures) (c .before .before .before .wide .ensures) (c .before .before .due .ensures) (c .before .before .before .before .before .before .before .before .before .pre .0) (omega (arith, (c .before .if1 .left), (c .if2 .taken)))
-
-add-hold-at : tie.Need-add-hold-at
-add-hold-at c = search needs
-
-hold-at-requires : tie.Need-hold-at-requires
-hold-at-requires c κs = ((c .before .before .before .before .before .before .before .before .before .before .before .pre .0), (first-at _ _ _ (c .before .before .before .before .before .before .before .before .before .before .before .pre .1) (c .before .before .before .before .before .before .before .first .ensures), omega (arith, (c .before .before .before .if1 .left), (c .before .before .if2 .left))))
-
-same-length-5 : tie.Need-same-length-5
-same-length-5 c = search needs
-
-same-length-6 : tie.Need-same-length-6
-same-length-6 c = search needs
-
-returns-3 : tie.Need-returns-3
-returns-3 c = hold-0 _ _ _ _ _ _ _ (c .before .before .before .before .before .before .before .before .before .before .before .before .first .ensures) (c .before .before .before .before .before .before .before .before .before .before .wide .ensures) (c .before .before .before .before .before .before .before .before .before .due .ensures) _ _ (omega (arith, (c .before .before .before .before .before .before .before .before .if1 .left), (c .before .before .before .before .before .before .before .if2 .left))) (c .before .before .before .before .hold-at .ensures)
+returns-2 c = c .before .before .before .before .hold-first .ensures
 
 pub hold-spec : {M : Type 1} → statement M
 hold-spec =
@@ -57,11 +47,7 @@ hold-spec =
     same-length
     same-length-2
     returns
+    hold-first-requires
     same-length-3
     same-length-4
-    returns-2
-    add-hold-at
-    hold-at-requires
-    same-length-5
-    same-length-6
-    returns-3)
+    returns-2)

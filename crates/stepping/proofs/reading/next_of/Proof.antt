@@ -1,27 +1,22 @@
-use Rattle.runs.specs.Reads.{next-plain, next-empty, next-busy}
+use mathlib.Core.Path.{ap}
+use Rattle.sheet.specs.declared.records.Record.{Record}
+use Rattle.runs.specs.Reads.{got-end, got-next}
 use borrow.Author.Needs.{needs}
 use native.Mathlib.Omega.{arith}
 use Rattle.stepping.proofs.reading.next_of.Statement.{statement}
 use Rattle.stepping.proofs.reading.next_of.Tie as tie
 
 returns : tie.Need-returns
-returns c = next-plain ((c .before .before .before .args .q)) ((c .before .before .before .args .links .now)) ((c .before .before .before .args .x)) ((c .if1 .taken))
+returns c = ap (λ (q : Record). q .next) (got-end _ _ _ (c .if1 .taken))
 
-wide-requires : tie.Need-wide-requires
-wide-requires c κs = search needs
+record-offset-requires : tie.Need-record-offset-requires
+record-offset-requires c κs = omega (arith, c .if1 .left)
 
-mul-if2 : tie.Need-mul-if2
-mul-if2 c = search needs
-
-shared-slice-read-if2 : tie.Need-shared-slice-read-if2
-shared-slice-read-if2 c = omega (arith, (c .before .wide .ensures), (c .before .before .before .before .before .pre) ((c .before .before .if1 .left)))
+next-at-requires : tie.Need-next-at-requires
+next-at-requires c κs = rw (c .record-offset .ensures) ((c .before .before .before .pre) (c .before .if1 .left))
 
 returns-2 : tie.Need-returns-2
-returns-2 c = next-empty ((c .before .before .before .before .before .before .args .q)) ((c .before .before .before .before .before .before .args .links .now)) ((c .before .before .before .before .before .before .args .x)) ((c .before .before .before .if1 .left)) _ ((c .before .before .wide .ensures)) ((c .if2 .taken))
-
-returns-3 : tie.Need-returns-3
-returns-3 c = next-busy ((c .before .before .before .before .before .before .args .q)) ((c .before .before .before .before .before .before .args .links .now)) ((c .before .before .before .before .before .before .args .x)) ((c .before .before .before .if1 .left)) _ ((c .before .before .wide .ensures)) ((c .if2 .left))
+returns-2 c = got-next _ _ _ (c .before .before .if1 .left) _ _ (c .before .record-offset .ensures) (c .next-at .ensures)
 
 pub next-of-spec : {M : Type 1} → statement M
-next-of-spec =
-    tie.close (tie.spec returns wide-requires mul-if2 shared-slice-read-if2 returns-2 returns-3)
+next-of-spec = tie.close (tie.spec returns record-offset-requires next-at-requires returns-2)

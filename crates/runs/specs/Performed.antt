@@ -1,0 +1,71 @@
+-- What the code of a step's call computes: the tables and words after it, and what it means for the process that makes it.
+use Prim.Native.Nat.{ℕ}
+use mathlib.Core.Bool.{Bool, _&&_}
+use mathlib.Core.List.{List}
+use lib.Dec.{eqb}
+use lib.IntN.{ℤ}
+use Rattle.rings.specs.Lists.{if_then_else_}
+use Rattle.counts.specs.declared.Counts.{Counts}
+use Rattle.counts.specs.Counts.{isHead}
+use Rattle.model.specs.declared.answer.Answer.{Answer}
+use Rattle.model.specs.declared.answer.Answer.the-variants.{Done, Linkage, Number, Truth, Refused as NotDone}
+use Rattle.model.specs.Tables.{Tables}
+use Rattle.sets.specs.Procedures.{emptyOf}
+use Rattle.sets.specs.Calls.{telling}
+use Rattle.sheet.specs.declared.records.Record.{Record}
+use Rattle.machine.specs.Calls.{ListCall, onSet, hold, passivate, wait, cancel, activate, ifEmpty, finish, Call, onList, accum}
+use Rattle.machine.specs.OnTables.{operandWith, carriedOut}
+use Rattle.runs.specs.declared.Effect.{Effect}
+use Rattle.runs.specs.declared.Effect.the-variants.{Stays, Jumps, Moves, Refused}
+use Rattle.runs.specs.Run.{Turned, On, Off, resolved, callDue}
+
+-- a call that is no sequencing call leaves the first notice
+abbrev pub listEffect : ListCall → Effect
+listEffect (onSet k) = Stays
+listEffect (hold t) = Moves
+listEffect passivate = Moves
+listEffect (wait y) = Moves
+listEffect (cancel x) = Moves
+listEffect (activate again k x y t) = Moves
+listEffect (ifEmpty x) = Stays
+listEffect finish = Moves
+
+abbrev pub callEffect : Call → Effect
+callEffect (onList k) = listEffect k
+callEffect (accum k d) = Stays
+
+-- "or to y when 12 finds the head empty"
+unfoldable pub effectOf : Call → Record → Bool → Effect
+effectOf k q none = if eqb (q .operation) 12 && none then Jumps (q .y) else callEffect k
+
+abbrev pub unlessRefused : Answer → Effect → Effect
+unlessRefused Done e = e
+unlessRefused (Linkage x) e = e
+unlessRefused (Number n) e = e
+unlessRefused (Truth b) e = e
+unlessRefused (NotDone r) e = Refused r
+
+-- 12 by itself: refusal 3 where x is no head
+abbrev pub branched : Counts → Record → ℕ → List ℕ → Effect
+branched c q f links =
+    let x = operandWith c links f (q .x) in
+    unlessRefused (telling (isHead c x) Done) (if emptyOf x links then Jumps (q .y) else Stays)
+
+pub record Performed : Type 0 where
+  pub tables : Tables
+  pub words : List ℤ
+  pub effect : Effect
+
+-- the call of a record, or of the one that stands for finish, where current is at place f
+unfoldable pub performed : Counts → Record → ℕ → Tables → List ℤ → Performed
+performed c q f t w =
+    let d = resolved c (t .links) f q in
+    let a = carriedOut c (callDue d) t w in
+    record { tables = a .tables; words = a .words; effect = unlessRefused (a .answer) (effectOf (callDue d) q (emptyOf (d .x) (t .links))) }
+
+-- where the process goes, by the record's next
+abbrev pub turnedBy : Effect → ℕ → Turned
+turnedBy Stays next = On next
+turnedBy (Jumps y) next = On y
+turnedBy Moves next = On next
+turnedBy (Refused r) next = Off r

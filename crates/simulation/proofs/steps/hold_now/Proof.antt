@@ -1,0 +1,40 @@
+use Rattle.sequencing.specs.Sign.{above-passed}
+use Rattle.sequencing.specs.Calls.{holdStep}
+use borrow.Author.Needs.{needs}
+use native.Mathlib.Omega.{arith}
+use Rattle.simulation.proofs.steps.hold_now.Statement.{statement}
+use Rattle.simulation.proofs.steps.hold_now.Tie as tie
+
+wide-requires : tie.Need-wide-requires
+wide-requires c κs = search needs
+
+above-zero-requires : tie.Need-above-zero-requires
+above-zero-requires c κs = search needs
+
+add-hold-first : tie.Need-add-hold-first
+add-hold-first c = search needs
+
+hold-first-requires : tie.Need-hold-first-requires
+hold-first-requires c κs = rw (c .before .before .before .wide .ensures) (c .before .before .before .before .before .before .pre .0 .sound, (c .before .before .before .before .before .before .pre .0 .first-led, c .before .before .before .before .before .before .pre .1))
+
+same-length : tie.Need-same-length
+same-length c = search needs
+
+same-length-2 : tie.Need-same-length-2
+same-length-2 c = search needs
+
+returns : tie.Need-returns
+unfolding holdStep
+returns c = rw (c .before .before .before .before .before .before .before .before .wide .ensures, above-passed (c .before .before .before .before .before .before .before .before .before .before .before .args .t) (c .before .before .before .before .before .before .before .before .before .before .before .fits .t) _ (c .before .before .before .before .before .before .before .above-zero .ensures)) at (c .before .before .before .before .hold-first .ensures)
+
+pub hold-now-spec : {M : Type 1} → statement M
+hold-now-spec =
+    tie.close
+    (tie.spec
+    wide-requires
+    above-zero-requires
+    add-hold-first
+    hold-first-requires
+    same-length
+    same-length-2
+    returns)
