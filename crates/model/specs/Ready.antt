@@ -1,7 +1,7 @@
 -- What the core functions need of tables that were judged fine: ranges, and a first notice that stands behind its head.
 use Prim.Native.Nat.{ℕ, _+_, _-_, _<_, _≤_}
 use mathlib.Core.Path.{_≡_, refl, subst}
-use mathlib.Core.Logic.{inl, ⊎-elim}
+use mathlib.Core.Logic.{inl}
 use mathlib.Core.List.{List, [], _∷_}
 use native.Mathlib.Omega.{arith}
 use native.Mathlib.Nat.{not-suc-le-zero}
@@ -27,7 +27,6 @@ pub record Ready (c : Counts) (t : Tables) : Type 0 where
   pub links-sound : Sound (total c + 1) (t .links)
   pub axis-sound : Sound (c .processes + 2) (t .axis)
   pub times-in : (y : ℕ) → getD (t .times) y 0 ≤ limit
-  pub marks-in : (y : ℕ) → getD (t .marks) y 0 ≤ 1
   pub first-some : 0 < getD (t .axis) (c .processes + 1) 0
   pub first-in : getD (t .axis) (c .processes + 1) 0 ≤ c .processes
   -- the first notice stands behind the axis's own head
@@ -49,10 +48,6 @@ formed-ready c l t z w =
           below (c .processes) y
           (λ b. omega (arith, List·getD-eq-default (t .times) 0 {n = y} (omega (arith, z .lengths .times-is))))
           (λ b. inside y (places c (l .notices)) (λ k. s .limits y k) (λ out. omega (arith, s .idle-times y b out)));
-      marks-in = λ y.
-          below (c .processes) y
-          (λ b. omega (arith, List·getD-eq-default (t .marks) 0 {n = y} (omega (arith, z .lengths .marks-is))))
-          (λ b. ⊎-elim (λ e. omega arith) (λ v. omega (arith, v .0)) (s .marked y b));
       first-some = omega (arith, f);
       first-in = omega (arith, f);
       first-led =

@@ -1,19 +1,18 @@
 -- What the calls of a step ask follows from what the step asks.
 use Prim.Native.Nat.{ℕ, _+_, _*_, _-_, _≤_}
-use mathlib.Core.Path.{_≡_, refl, sym, ap, _∙_, subst}
+use mathlib.Core.Path.{_≡_, sym, ap, _∙_, subst}
 use mathlib.Core.Logic.{_≢_}
 use mathlib.Core.List.{List}
 use native.Mathlib.Omega.{arith}
-use lib.Dec.{eqb}
 use lib.IntN.{ℤ}
 use lib.ListN.{length, getD}
 use Rattle.counts.specs.declared.Counts.{Counts}
 use Rattle.counts.specs.Counts.{limit}
 use Rattle.model.specs.Tables.{Tables}
 use Rattle.sequencing.specs.Calls.{half}
-use Rattle.sequencing.specs.Promise.{Place, Noticed, Judged, ready-judged}
+use Rattle.sequencing.specs.Promise.{Noticed, Judged, ready-judged}
 use Rattle.sheet.specs.declared.records.Record.{Record}
-use Rattle.sheet.specs.Sheet.{recordOffset, recordFrom, recordWith}
+use Rattle.sheet.specs.Sheet.{recordOffset, recordFrom}
 use Rattle.runs.specs.Run.{recordGot}
 use Rattle.runs.specs.Performed.{Performed, performed}
 use Rattle.runs.specs.Needs.{Resolvable, XReadable, YReadable, Performable}

@@ -1,6 +1,6 @@
 -- What the readers answer, from their tests.
 use Prim.Native.Nat.{ℕ, _+_, _-_, _≤_, _<_}
-use mathlib.Core.Path.{_≡_, refl, sym, ap, _∙_, subst}
+use mathlib.Core.Path.{_≡_, refl, sym, ap, _∙_}
 use mathlib.Core.Logic.{_≢_, ⊎-elim}
 use mathlib.Core.Bool.{Bool, true, false, _&&_}
 use mathlib.Core.List.{List}
@@ -31,9 +31,6 @@ module _ (c : Counts) (axis positions : List ℕ) (f : ℕ) (is : f ≡ placeNow
   pub ends-main : f ≡ 1 → eqb (getD positions 1 0) 0 ≡ endsNow c axis positions
   unfolding endsNow
   ends-main e = rw (eq-eqb (placeNow c axis) 1 (sym is ∙ e))
-
-  pub record-here : (r : ℕ) → r ≡ getD positions f 0 → r ≡ getD positions (placeNow c axis) 0
-  record-here r e = e ∙ ap (λ (j : ℕ). getD positions j 0) is
 
   -- main's position is current's, where main is current
   pub ends-at : (r : ℕ) (b : Bool) → r ≡ getD positions f 0 → b ≡ (eqb r 0 && eqb f 1) → b ≡ endsNow c axis positions

@@ -1,6 +1,6 @@
 -- The loop's variables: current's place, time and record beside the tables, and what a step makes of them.
 use Prim.Native.Nat.{ℕ, _+_, _*_, _/_, _<_}
-use mathlib.Core.Path.{_≡_, refl, sym, ap, _∙_, subst}
+use mathlib.Core.Path.{_≡_, refl, sym, ap, _∙_}
 use mathlib.Core.Logic.{_≢_}
 use mathlib.Core.Bool.{Bool, true, false, _&&_}
 use mathlib.Core.List.{List}
@@ -12,9 +12,8 @@ use Rattle.model.specs.Ready.{Ready}
 use Rattle.sheet.specs.Sheet.{recordOffset}
 use Rattle.machine.specs.declared.End.the-variants.{Refused}
 use Rattle.machine.specs.OnTables.{placeNow, timeAt}
-use Rattle.runs.specs.declared.Effect.{Effect}
 use Rattle.runs.specs.declared.Effect.the-variants.{Refused as NotDone}
-use Rattle.runs.specs.Run.{RunTables, Turned, On, Off, Stepped, recordGot, recordAtNow, stepOn, endsNow, stoppedOn, turnsOn}
+use Rattle.runs.specs.Run.{RunTables, On, Off, Stepped, recordGot, recordAtNow, stepOn, endsNow, stoppedOn, turnsOn}
 use Rattle.runs.specs.Performed.{Performed, performed, turnedBy}
 use Rattle.runs.specs.Needs.{Performable}
 use Rattle.runs.specs.Reads.{ends-at}

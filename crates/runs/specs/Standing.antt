@@ -1,31 +1,25 @@
 -- A run's tables that spell a machine: what a step's code needs follows from that.
-use Prim.Native.Nat.{ℕ, zero, suc, _+_, _*_, _-_, _≤_, _<_}
-use mathlib.Core.Path.{_≡_, refl, sym, ap, _∙_, subst}
-use mathlib.Core.Logic.{_≢_, _⊎_, ⊎-elim}
+use Prim.Native.Nat.{ℕ, zero, suc, _+_, _-_, _≤_, _<_}
+use mathlib.Core.Path.{_≡_, sym, ap, _∙_, subst}
+use mathlib.Core.Logic.{_≢_}
 use mathlib.Core.Bool.{true}
 use mathlib.Core.List.{List, _∷_}
 use native.Mathlib.Omega.{arith}
-use lib.Dec.{leb, ltb, eqb}
 use lib.ListN.{length, getD}
-use borrow.Author.Tests.{eqb-false, ltb-true, lt-ltb}
-use Rattle.rings.specs.Lists.{decide, test}
 use Rattle.counts.specs.declared.Counts.{Counts}
 use Rattle.counts.specs.Counts.{Allowed}
 use Rattle.model.specs.Tables.{Tables, Sized, Spells}
 use Rattle.model.specs.Ready.{Ready, formed-ready}
 use Rattle.model.specs.Once.{spelled-sized}
-use Rattle.sets.specs.Procedures.{linkOr}
 use Rattle.sequencing.specs.Promise.{Judged, ready-judged}
 use Rattle.accumulator.specs.Triples.{flat, flat-length}
-use Rattle.sheet.specs.declared.header.Header.{Header}
-use Rattle.sheet.specs.declared.records.Record.{Record}
 use Rattle.sheet.specs.Sheet.{countsOf, recordsOf, recordOffset, recordWith}
-use Rattle.sheet.specs.Accepted.{isOperand, accepted}
-use Rattle.sheet.specs.Fields.{operand-kinds, Ranged}
-use Rattle.sheet.specs.Ranges.{allowed-counts, few-records, record-inside, record-in}
+use Rattle.sheet.specs.Accepted.{accepted}
+use Rattle.sheet.specs.Fields.{Ranged}
+use Rattle.sheet.specs.Ranges.{allowed-counts, record-inside, record-in}
 use Rattle.machine.specs.Machine.{Machine}
-use Rattle.machine.specs.OnTables.{placeNow, timeAt, operandWith, operandAt}
-use Rattle.runs.specs.Run.{RunTables, endRecord, recordGot, resolved, recordAtNow, dueNow, dueIn}
+use Rattle.machine.specs.OnTables.{placeNow, timeAt}
+use Rattle.runs.specs.Run.{RunTables, recordAtNow}
 use Rattle.runs.specs.Needs.{Performable}
 
 -- these tables are the machine's: its lists spelled, "place 0 zero" and its positions, its triples' words

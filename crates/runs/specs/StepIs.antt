@@ -1,6 +1,6 @@
 -- What the step's code leaves, from what its call came to.
 use Prim.Native.Nat.{ℕ}
-use mathlib.Core.Path.{_≡_, refl, sym, ap, _∙_, subst}
+use mathlib.Core.Path.{_≡_, refl, sym, ap, _∙_}
 use mathlib.Core.Bool.{Bool, true, false, _&&_}
 use mathlib.Core.List.{List}
 use lib.Dec.{eqb}
@@ -17,7 +17,7 @@ use Rattle.model.specs.Tables.{Tables}
 use Rattle.sets.specs.Procedures.{emptyOf}
 use Rattle.sheet.specs.declared.records.Record.{Record}
 use Rattle.trace.specs.Lines.{put, lineBytes}
-use Rattle.machine.specs.Calls.{ListCall, onSet, hold, passivate, wait, cancel, activate, ifEmpty, finish, Call, onList, accum}
+use Rattle.machine.specs.Calls.{onSet, hold, passivate, wait, cancel, activate, ifEmpty, finish, Call, onList, accum}
 use Rattle.machine.specs.Steps.{nextOf}
 use Rattle.machine.specs.OnTables.{placeNow, timeAt, tablesAfter, Carried, carriedOut}
 use Rattle.runs.specs.declared.Effect.{Effect}

@@ -7,10 +7,8 @@ pub mod reading;
 use counts::Counts;
 use ring::wide;
 use trace::put_line;
-ghost use mathlib.Core.Path.{_≡_};
 ghost use Prim.Native.Nat.{_+_, _≤_, _<_};
-ghost use lib.ListN.{length, set};
-ghost use Rattle.trace.specs.Lines.{put, lineBytes};
+ghost use lib.ListN.{length};
 ghost use Rattle.runs.specs.StepIs.{Went};
 
 // After an accepted call of the process at place f: it is at next now, and the line of time, process and record r goes to byte i.

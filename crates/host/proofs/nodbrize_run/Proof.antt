@@ -3,7 +3,6 @@ use Rattle.host.specs.Host.{host-8, host-long, host-run}
 use Rattle.runs.specs.Run.{RanOn}
 use mathlib.Core.Path.{sym, ap, _∙_}
 use borrow.Author.Needs.{needs}
-use native.Mathlib.Omega.{arith}
 use Rattle.host.proofs.nodbrize_run.Statement.{statement}
 use Rattle.host.proofs.nodbrize_run.Tie as tie
 

@@ -1,7 +1,6 @@
 use Rattle.sequencing.specs.Sign.{above-passed}
 use Rattle.sequencing.specs.Calls.{holdStep}
 use borrow.Author.Needs.{needs}
-use native.Mathlib.Omega.{arith}
 use Rattle.simulation.proofs.steps.hold_now.Statement.{statement}
 use Rattle.simulation.proofs.steps.hold_now.Tie as tie
 

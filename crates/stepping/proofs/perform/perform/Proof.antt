@@ -1,4 +1,4 @@
-use mathlib.Core.Path.{refl, sym, _∙_, ap}
+use mathlib.Core.Path.{sym, ap}
 use Rattle.sequencing.specs.Promise.{ready-judged}
 use Rattle.sheet.specs.declared.records.Record.{Record}
 use Rattle.runs.specs.Arms.{arm-0}

@@ -2,7 +2,6 @@ use mathlib.Core.Path.{sym, ap}
 use Rattle.model.specs.declared.answer.Answer.{Answer}
 use Rattle.runs.specs.Performed.{unlessRefused}
 use borrow.Author.Needs.{needs}
-use native.Mathlib.Omega.{arith}
 use Rattle.stepping.proofs.perform.unless_refused.Statement.{statement}
 use Rattle.stepping.proofs.perform.unless_refused.Tie as tie
 

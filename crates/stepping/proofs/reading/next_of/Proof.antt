@@ -1,7 +1,6 @@
 use mathlib.Core.Path.{ap}
 use Rattle.sheet.specs.declared.records.Record.{Record}
 use Rattle.runs.specs.Reads.{got-end, got-next}
-use borrow.Author.Needs.{needs}
 use native.Mathlib.Omega.{arith}
 use Rattle.stepping.proofs.reading.next_of.Statement.{statement}
 use Rattle.stepping.proofs.reading.next_of.Tie as tie

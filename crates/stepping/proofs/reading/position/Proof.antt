@@ -2,7 +2,6 @@ use mathlib.Core.Path.{sym, ap, _∙_}
 use lib.ListN.{getD}
 use Prim.Native.Nat.{ℕ}
 use borrow.Author.Needs.{needs}
-use native.Mathlib.Omega.{arith}
 use Rattle.stepping.proofs.reading.position.Statement.{statement}
 use Rattle.stepping.proofs.reading.position.Tie as tie
 

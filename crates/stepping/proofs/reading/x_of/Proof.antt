@@ -3,8 +3,6 @@ use mathlib.Core.Bool.{true}
 use Prim.Native.Nat.{ℕ}
 use Rattle.sheet.specs.Accepted.{isOperand}
 use Rattle.machine.specs.OnTables.{operandWith}
-use borrow.Author.Needs.{needs}
-use native.Mathlib.Omega.{arith}
 use Rattle.stepping.proofs.reading.x_of.Statement.{statement}
 use Rattle.stepping.proofs.reading.x_of.Tie as tie
 
