@@ -56,6 +56,9 @@ module _ (c : Counts) (bytes : List ℕ) (i f time : ℕ) (t : Tables) (words : 
     pub some : 1 ≤ op
     some = omega (arith, p .ranged .operation-some)
 
+    pub not-zero : op ≡ 0 → ⊥
+    not-zero e = omega (arith, some)
+
     pub most : op ≤ 13
     most = omega (arith, p .ranged .operation-in)
 

@@ -86,6 +86,8 @@ fn perform_at(
         7 => unless_refused(passivate(c, axis, times), Effect::Moves),
         8 => unless_refused(wait_of(c, sheet, i, links, axis, times, f), Effect::Moves),
         9 => unless_refused(cancel_of(c, sheet, i, links, axis, times, f), Effect::Moves),
+        // no record has it: the arms begin at 0, and so finding one takes no subtraction
+        0 => Effect::Stays,
         12 => branch(c, sheet, i, links, f),
         13 => unless_refused(accum_of(sheet, i, accums, time), Effect::Stays),
         _ => unless_refused(

@@ -1,6 +1,6 @@
 use Rattle.runs.specs.Arms.{arm-1, arm-2, arm-3, arm-4, arm-5, arm-6, arm-7, arm-8, arm-9, arm-12, arm-13, arm-timed}
 use Rattle.runs.specs.Which.{the-rest}
-use Rattle.runs.specs.Performing.{judged, noticed, x-readable, y-readable, numbered, in-sixty-four, some, most}
+use Rattle.runs.specs.Performing.{judged, noticed, x-readable, y-readable, numbered, in-sixty-four, some, not-zero, most}
 use mathlib.Core.Path.{sym, _∙_}
 use Rattle.sheet.specs.Sheet.{recordFrom}
 use borrow.Author.Needs.{needs}
@@ -66,10 +66,10 @@ unless-refused-requires-9 : tie.Need-unless-refused-requires-9
 unless-refused-requires-9 c κs = search needs
 
 branch-requires : tie.Need-branch-requires
-branch-requires c κs = x-readable _ _ _ _ _ _ _ (c .before .before .before .before .before .before .before .before .pre) _ (c .before .before .operation-at .ensures) (λ z. omega (arith, c .before .match .keys10))
+branch-requires c κs = x-readable _ _ _ _ _ _ _ (c .before .before .before .before .before .before .before .before .pre) _ (c .before .before .operation-at .ensures) (λ z. omega (arith, c .before .match .keys11))
 
 accum-of-requires : tie.Need-accum-of-requires
-accum-of-requires c κs = (c .before .before .before .before .before .before .before .before .pre .inside, numbered _ _ _ _ _ _ _ (c .before .before .before .before .before .before .before .before .pre) _ (c .before .before .operation-at .ensures) (c .before .match .keys11))
+accum-of-requires c κs = (c .before .before .before .before .before .before .before .before .pre .inside, numbered _ _ _ _ _ _ _ (c .before .before .before .before .before .before .before .before .pre) _ (c .before .before .operation-at .ensures) (c .before .match .keys12))
 
 unless-refused-requires-10 : tie.Need-unless-refused-requires-10
 unless-refused-requires-10 c κs = search needs
@@ -152,17 +152,20 @@ same-length-15 c = search needs
 returns-9 : tie.Need-returns-9
 returns-9 c = arm-9 (c .before .before .before .before .before .before .before .before .before .before .before .before .before .before .before .before .args .c) (recordFrom (c .before .before .before .before .before .before .before .before .before .before .before .before .before .before .before .before .args .sheet .now) (c .before .before .before .before .before .before .before .before .before .before .before .before .before .before .before .before .args .i)) (c .before .before .before .before .before .before .before .before .before .before .before .before .before .before .before .before .args .f) (c .before .before .before .before .before .before .before .before .before .before .before .before .before .before .before .before .args .links .now) (c .before .before .before .before .before .before .before .before .before .before .before .before .before .before .before .before .args .axis .now) (c .before .before .before .before .before .before .before .before .before .before .before .before .before .before .before .before .args .times .now) (c .before .before .before .before .before .before .before .before .before .before .before .before .before .before .before .before .args .marks .now) (c .before .before .before .before .before .before .before .before .before .before .before .before .before .before .before .before .args .accums .now) _ _ _ _ (c .unless-refused9 .ensures) (sym (c .before .before .before .before .before .before .before .before .before .before .operation-at .ensures) ∙ c .before .before .before .before .before .before .before .before .before .match .keys9) (c .before .before .before .before .before .cancel-of .ensures)
 
+returns-10 : tie.Need-returns-10
+returns-10 c = absurd (not-zero _ _ _ _ _ _ _ (c .before .before .before .before .before .before .before .pre) _ (c .before .operation-at .ensures) (c .match .keys10))
+
 same-length-16 : tie.Need-same-length-16
 same-length-16 c = search needs
 
-returns-10 : tie.Need-returns-10
-returns-10 c = arm-12 (c .before .before .before .before .before .before .before .before .before .args .c) (recordFrom (c .before .before .before .before .before .before .before .before .before .args .sheet .now) (c .before .before .before .before .before .before .before .before .before .args .i)) (c .before .before .before .before .before .before .before .before .before .args .f) (c .before .before .before .before .before .before .before .before .before .args .links .now) (c .before .before .before .before .before .before .before .before .before .args .axis .now) (c .before .before .before .before .before .before .before .before .before .args .times .now) (c .before .before .before .before .before .before .before .before .before .args .marks .now) (c .before .before .before .before .before .before .before .before .before .args .accums .now) (sym (c .before .before .before .operation-at .ensures) ∙ c .before .before .match .keys10) _ (c .branch .ensures)
+returns-11 : tie.Need-returns-11
+returns-11 c = arm-12 (c .before .before .before .before .before .before .before .before .before .args .c) (recordFrom (c .before .before .before .before .before .before .before .before .before .args .sheet .now) (c .before .before .before .before .before .before .before .before .before .args .i)) (c .before .before .before .before .before .before .before .before .before .args .f) (c .before .before .before .before .before .before .before .before .before .args .links .now) (c .before .before .before .before .before .before .before .before .before .args .axis .now) (c .before .before .before .before .before .before .before .before .before .args .times .now) (c .before .before .before .before .before .before .before .before .before .args .marks .now) (c .before .before .before .before .before .before .before .before .before .args .accums .now) (sym (c .before .before .before .operation-at .ensures) ∙ c .before .before .match .keys11) _ (c .branch .ensures)
 
 same-length-17 : tie.Need-same-length-17
 same-length-17 c = search needs
 
-returns-11 : tie.Need-returns-11
-returns-11 c = arm-13 (c .before .before .before .before .before .before .before .before .before .before .before .args .c) (recordFrom (c .before .before .before .before .before .before .before .before .before .before .before .args .sheet .now) (c .before .before .before .before .before .before .before .before .before .before .before .args .i)) (c .before .before .before .before .before .before .before .before .before .before .before .args .f) (c .before .before .before .before .before .before .before .before .before .before .before .args .links .now) (c .before .before .before .before .before .before .before .before .before .before .before .args .axis .now) (c .before .before .before .before .before .before .before .before .before .before .before .args .times .now) (c .before .before .before .before .before .before .before .before .before .before .before .args .marks .now) (c .before .before .before .before .before .before .before .before .before .before .before .args .accums .now) _ _ (sym (c .before .before .before .before .before .operation-at .ensures) ∙ c .before .before .before .before .match .keys11) (in-sixty-four _ _ _ _ _ _ _ (c .before .before .before .before .before .before .before .before .before .before .before .pre) _ (c .before .before .before .before .before .operation-at .ensures) (c .before .before .before .before .match .keys11)) _ (c .before .before .before .before .before .before .before .before .before .before .before .pre .time-is) _ (c .before .before .accum-of .ensures) (c .unless-refused10 .ensures)
+returns-12 : tie.Need-returns-12
+returns-12 c = arm-13 (c .before .before .before .before .before .before .before .before .before .before .before .args .c) (recordFrom (c .before .before .before .before .before .before .before .before .before .before .before .args .sheet .now) (c .before .before .before .before .before .before .before .before .before .before .before .args .i)) (c .before .before .before .before .before .before .before .before .before .before .before .args .f) (c .before .before .before .before .before .before .before .before .before .before .before .args .links .now) (c .before .before .before .before .before .before .before .before .before .before .before .args .axis .now) (c .before .before .before .before .before .before .before .before .before .before .before .args .times .now) (c .before .before .before .before .before .before .before .before .before .before .before .args .marks .now) (c .before .before .before .before .before .before .before .before .before .before .before .args .accums .now) _ _ (sym (c .before .before .before .before .before .operation-at .ensures) ∙ c .before .before .before .before .match .keys12) (in-sixty-four _ _ _ _ _ _ _ (c .before .before .before .before .before .before .before .before .before .before .before .pre) _ (c .before .before .before .before .before .operation-at .ensures) (c .before .before .before .before .match .keys12)) _ (c .before .before .before .before .before .before .before .before .before .before .before .pre .time-is) _ (c .before .before .accum-of .ensures) (c .unless-refused10 .ensures)
 
 same-length-18 : tie.Need-same-length-18
 same-length-18 c = search needs
@@ -173,8 +176,8 @@ same-length-19 c = search needs
 same-length-20 : tie.Need-same-length-20
 same-length-20 c = search needs
 
-returns-12 : tie.Need-returns-12
-returns-12 c = arm-timed (c .before .before .before .before .before .before .before .before .before .before .before .before .before .before .before .before .args .c) (recordFrom (c .before .before .before .before .before .before .before .before .before .before .before .before .before .before .before .before .args .sheet .now) (c .before .before .before .before .before .before .before .before .before .before .before .before .before .before .before .before .args .i)) (c .before .before .before .before .before .before .before .before .before .before .before .before .before .before .before .before .args .f) (c .before .before .before .before .before .before .before .before .before .before .before .before .before .before .before .before .args .links .now) (c .before .before .before .before .before .before .before .before .before .before .before .before .before .before .before .before .args .axis .now) (c .before .before .before .before .before .before .before .before .before .before .before .before .before .before .before .before .args .times .now) (c .before .before .before .before .before .before .before .before .before .before .before .before .before .before .before .before .args .marks .now) (c .before .before .before .before .before .before .before .before .before .before .before .before .before .before .before .before .args .accums .now) _ _ _ _ (c .unless-refused11 .ensures) (omega (arith, c .before .before .before .before .before .before .before .before .before .before .operation-at .ensures, the-rest _ (some _ _ _ _ _ _ _ (c .before .before .before .before .before .before .before .before .before .before .before .before .before .before .before .before .pre) _ (c .before .before .before .before .before .before .before .before .before .before .operation-at .ensures)) (most _ _ _ _ _ _ _ (c .before .before .before .before .before .before .before .before .before .before .before .before .before .before .before .before .pre) _ (c .before .before .before .before .before .before .before .before .before .before .operation-at .ensures)) (c .before .before .before .before .before .before .before .before .before .match .rest .0 .0 .0 .0 .0 .0 .0 .0 .0 .0 .1) (c .before .before .before .before .before .before .before .before .before .match .rest .0 .0 .0 .0 .0 .0 .0 .0 .0 .1) (c .before .before .before .before .before .before .before .before .before .match .rest .0 .0 .0 .0 .0 .0 .0 .0 .1) (c .before .before .before .before .before .before .before .before .before .match .rest .0 .0 .0 .0 .0 .0 .0 .1) (c .before .before .before .before .before .before .before .before .before .match .rest .0 .0 .0 .0 .0 .0 .1) (c .before .before .before .before .before .before .before .before .before .match .rest .0 .0 .0 .0 .0 .1) (c .before .before .before .before .before .before .before .before .before .match .rest .0 .0 .0 .0 .1) (c .before .before .before .before .before .before .before .before .before .match .rest .0 .0 .0 .1) (c .before .before .before .before .before .before .before .before .before .match .rest .0 .0 .1) (c .before .before .before .before .before .before .before .before .before .match .rest .0 .1) (c .before .before .before .before .before .before .before .before .before .match .rest .1) .0)) (omega (arith, c .before .before .before .before .before .before .before .before .before .before .operation-at .ensures, the-rest _ (some _ _ _ _ _ _ _ (c .before .before .before .before .before .before .before .before .before .before .before .before .before .before .before .before .pre) _ (c .before .before .before .before .before .before .before .before .before .before .operation-at .ensures)) (most _ _ _ _ _ _ _ (c .before .before .before .before .before .before .before .before .before .before .before .before .before .before .before .before .pre) _ (c .before .before .before .before .before .before .before .before .before .before .operation-at .ensures)) (c .before .before .before .before .before .before .before .before .before .match .rest .0 .0 .0 .0 .0 .0 .0 .0 .0 .0 .1) (c .before .before .before .before .before .before .before .before .before .match .rest .0 .0 .0 .0 .0 .0 .0 .0 .0 .1) (c .before .before .before .before .before .before .before .before .before .match .rest .0 .0 .0 .0 .0 .0 .0 .0 .1) (c .before .before .before .before .before .before .before .before .before .match .rest .0 .0 .0 .0 .0 .0 .0 .1) (c .before .before .before .before .before .before .before .before .before .match .rest .0 .0 .0 .0 .0 .0 .1) (c .before .before .before .before .before .before .before .before .before .match .rest .0 .0 .0 .0 .0 .1) (c .before .before .before .before .before .before .before .before .before .match .rest .0 .0 .0 .0 .1) (c .before .before .before .before .before .before .before .before .before .match .rest .0 .0 .0 .1) (c .before .before .before .before .before .before .before .before .before .match .rest .0 .0 .1) (c .before .before .before .before .before .before .before .before .before .match .rest .0 .1) (c .before .before .before .before .before .before .before .before .before .match .rest .1) .1)) (rw (c .before .before .before .before .before .before .before .before .before .before .operation-at .ensures) at (c .before .before .before .before .before .timed-of .ensures))
+returns-13 : tie.Need-returns-13
+returns-13 c = arm-timed (c .before .before .before .before .before .before .before .before .before .before .before .before .before .before .before .before .args .c) (recordFrom (c .before .before .before .before .before .before .before .before .before .before .before .before .before .before .before .before .args .sheet .now) (c .before .before .before .before .before .before .before .before .before .before .before .before .before .before .before .before .args .i)) (c .before .before .before .before .before .before .before .before .before .before .before .before .before .before .before .before .args .f) (c .before .before .before .before .before .before .before .before .before .before .before .before .before .before .before .before .args .links .now) (c .before .before .before .before .before .before .before .before .before .before .before .before .before .before .before .before .args .axis .now) (c .before .before .before .before .before .before .before .before .before .before .before .before .before .before .before .before .args .times .now) (c .before .before .before .before .before .before .before .before .before .before .before .before .before .before .before .before .args .marks .now) (c .before .before .before .before .before .before .before .before .before .before .before .before .before .before .before .before .args .accums .now) _ _ _ _ (c .unless-refused11 .ensures) (omega (arith, c .before .before .before .before .before .before .before .before .before .before .operation-at .ensures, the-rest _ (some _ _ _ _ _ _ _ (c .before .before .before .before .before .before .before .before .before .before .before .before .before .before .before .before .pre) _ (c .before .before .before .before .before .before .before .before .before .before .operation-at .ensures)) (most _ _ _ _ _ _ _ (c .before .before .before .before .before .before .before .before .before .before .before .before .before .before .before .before .pre) _ (c .before .before .before .before .before .before .before .before .before .before .operation-at .ensures)) (c .before .before .before .before .before .before .before .before .before .match .rest .0 .0 .0 .0 .0 .0 .0 .0 .0 .0 .0 .1) (c .before .before .before .before .before .before .before .before .before .match .rest .0 .0 .0 .0 .0 .0 .0 .0 .0 .0 .1) (c .before .before .before .before .before .before .before .before .before .match .rest .0 .0 .0 .0 .0 .0 .0 .0 .0 .1) (c .before .before .before .before .before .before .before .before .before .match .rest .0 .0 .0 .0 .0 .0 .0 .0 .1) (c .before .before .before .before .before .before .before .before .before .match .rest .0 .0 .0 .0 .0 .0 .0 .1) (c .before .before .before .before .before .before .before .before .before .match .rest .0 .0 .0 .0 .0 .0 .1) (c .before .before .before .before .before .before .before .before .before .match .rest .0 .0 .0 .0 .0 .1) (c .before .before .before .before .before .before .before .before .before .match .rest .0 .0 .0 .0 .1) (c .before .before .before .before .before .before .before .before .before .match .rest .0 .0 .0 .1) (c .before .before .before .before .before .before .before .before .before .match .rest .0 .1) (c .before .before .before .before .before .before .before .before .before .match .rest .1) .0)) (omega (arith, c .before .before .before .before .before .before .before .before .before .before .operation-at .ensures, the-rest _ (some _ _ _ _ _ _ _ (c .before .before .before .before .before .before .before .before .before .before .before .before .before .before .before .before .pre) _ (c .before .before .before .before .before .before .before .before .before .before .operation-at .ensures)) (most _ _ _ _ _ _ _ (c .before .before .before .before .before .before .before .before .before .before .before .before .before .before .before .before .pre) _ (c .before .before .before .before .before .before .before .before .before .before .operation-at .ensures)) (c .before .before .before .before .before .before .before .before .before .match .rest .0 .0 .0 .0 .0 .0 .0 .0 .0 .0 .0 .1) (c .before .before .before .before .before .before .before .before .before .match .rest .0 .0 .0 .0 .0 .0 .0 .0 .0 .0 .1) (c .before .before .before .before .before .before .before .before .before .match .rest .0 .0 .0 .0 .0 .0 .0 .0 .0 .1) (c .before .before .before .before .before .before .before .before .before .match .rest .0 .0 .0 .0 .0 .0 .0 .0 .1) (c .before .before .before .before .before .before .before .before .before .match .rest .0 .0 .0 .0 .0 .0 .0 .1) (c .before .before .before .before .before .before .before .before .before .match .rest .0 .0 .0 .0 .0 .0 .1) (c .before .before .before .before .before .before .before .before .before .match .rest .0 .0 .0 .0 .0 .1) (c .before .before .before .before .before .before .before .before .before .match .rest .0 .0 .0 .0 .1) (c .before .before .before .before .before .before .before .before .before .match .rest .0 .0 .0 .1) (c .before .before .before .before .before .before .before .before .before .match .rest .0 .1) (c .before .before .before .before .before .before .before .before .before .match .rest .1) .1)) (rw (c .before .before .before .before .before .before .before .before .before .before .operation-at .ensures) at (c .before .before .before .before .before .timed-of .ensures))
 
 pub perform-at-spec : {M : Type 1} → statement M
 perform-at-spec =
@@ -228,11 +231,12 @@ perform-at-spec =
     same-length-14
     same-length-15
     returns-9
-    same-length-16
     returns-10
-    same-length-17
+    same-length-16
     returns-11
+    same-length-17
+    returns-12
     same-length-18
     same-length-19
     same-length-20
-    returns-12)
+    returns-13)
