@@ -21,15 +21,10 @@ pub record Resolvable (c : Counts) (links : List ℕ) (f : ℕ) : Type 0 where
   pub sound : Sound (total c + 1) links
   pub place-in : f ≤ c .processes
 
--- to resolve x, or y, of the record whose bytes begin at i
-pub record XReadable (c : Counts) (bytes : List ℕ) (i : ℕ) (links : List ℕ) (f : ℕ) : Type 0 where
+-- to resolve v, which is x or y of the record whose bytes begin at i
+pub record Readable (c : Counts) (bytes : List ℕ) (i : ℕ) (links : List ℕ) (f v : ℕ) : Type 0 where
   pub inside : i + 24 ≤ length bytes
-  pub operand : isOperand c (recordFrom bytes i .x) ≡ true
-  pub resolvable : Resolvable c links f
-
-pub record YReadable (c : Counts) (bytes : List ℕ) (i : ℕ) (links : List ℕ) (f : ℕ) : Type 0 where
-  pub inside : i + 24 ≤ length bytes
-  pub operand : isOperand c (recordFrom bytes i .y) ≡ true
+  pub operand : isOperand c v ≡ true
   pub resolvable : Resolvable c links f
 
 -- to make its call: judged tables, fields in their ranges, current's place and time, and all accumulators

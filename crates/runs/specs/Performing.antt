@@ -15,7 +15,7 @@ use Rattle.sheet.specs.declared.records.Record.{Record}
 use Rattle.sheet.specs.Sheet.{recordOffset, recordFrom}
 use Rattle.runs.specs.Run.{recordGot}
 use Rattle.runs.specs.Performed.{Performed, performed}
-use Rattle.runs.specs.Needs.{Resolvable, XReadable, YReadable, Performable}
+use Rattle.runs.specs.Needs.{Resolvable, Readable, Performable}
 use Rattle.runs.specs.Reads.{got-record}
 
 module _ (c : Counts) (bytes : List ℕ) (i f time : ℕ) (t : Tables) (words : List ℤ) (p : Performable c bytes i f time t words) where
@@ -41,10 +41,10 @@ module _ (c : Counts) (bytes : List ℕ) (i f time : ℕ) (t : Tables) (words : 
       head = omega arith
 
   module _ (op : ℕ) (is : op ≡ recordFrom bytes i .operation) where
-    pub x-readable : op ≢ 13 → XReadable c bytes i (t .links) f
+    pub x-readable : op ≢ 13 → Readable c bytes i (t .links) f (recordFrom bytes i .x)
     x-readable n = record { inside = p .inside; operand = p .ranged .x-operand (λ e. n (is ∙ e)); resolvable = resolvable }
 
-    pub y-readable : op ≢ 12 → YReadable c bytes i (t .links) f
+    pub y-readable : op ≢ 12 → Readable c bytes i (t .links) f (recordFrom bytes i .y)
     y-readable n = record { inside = p .inside; operand = p .ranged .y-operand (λ e. n (is ∙ e)); resolvable = resolvable }
 
     pub numbered : op ≡ 13 → (1 ≤ recordFrom bytes i .x) × (3 * recordFrom bytes i .x ≤ length words) × (time ≤ limit)

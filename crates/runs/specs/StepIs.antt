@@ -166,11 +166,9 @@ module _
 -- ---- the record that an accepted call leads to, from what it means
 
 module _ (v : Effect) (next n : ℕ) where
-  pub stays-to : v ≡ Stays → n ≡ next → turnedBy v next ≡ On n
-  stays-to e en = ap (λ (w : Effect). turnedBy w next) e ∙ ap On (sym en)
+  -- the record's next, where the process stays or may have changed
+  pub to-next : (w : Effect) → turnedBy w next ≡ On next → v ≡ w → n ≡ next → turnedBy v next ≡ On n
+  to-next w t e en = ap (λ (u : Effect). turnedBy u next) e ∙ t ∙ ap On (sym en)
 
   pub jumps-to : v ≡ Jumps n → turnedBy v next ≡ On n
   jumps-to e = ap (λ (w : Effect). turnedBy w next) e
-
-  pub moves-to : v ≡ Moves → n ≡ next → turnedBy v next ≡ On n
-  moves-to e en = ap (λ (w : Effect). turnedBy w next) e ∙ ap On (sym en)

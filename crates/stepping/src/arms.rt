@@ -28,10 +28,10 @@ ghost use Rattle.sequencing.specs.StepPromise.{WaitMade};
 ghost use Rattle.accumulator.specs.Flat.{updatedIn};
 ghost use Rattle.sheet.specs.Sheet.{recordFrom};
 ghost use Rattle.machine.specs.OnTables.{operandWith};
-ghost use Rattle.runs.specs.Needs.{XReadable, YReadable};
+ghost use Rattle.runs.specs.Needs.{Readable};
 
 pub(crate) fn out_of(c: Counts, sheet: &[u8], i: usize, links: &mut [u32], f: u32) -> Answer
-    requires { ⌜ XReadable c (now sheet) i (now links) f ⌝ }
+    requires { ⌜ Readable c (now sheet) i (now links) f (recordFrom (now sheet) i .x) ⌝ }
     ensures { λ r. ⌜ Moved (total c + 1) (outStep c (operandWith c (now (links .entry)) f (recordFrom (now (sheet .entry)) i .x)) (now (links .entry))) (record { links = now (links .exit); answer = r }) ⌝ }
 {
     let x = x_of(c, sheet, i, links, f);
@@ -39,8 +39,8 @@ pub(crate) fn out_of(c: Counts, sheet: &[u8], i: usize, links: &mut [u32], f: u3
 }
 
 pub(crate) fn follow_of(c: Counts, sheet: &[u8], i: usize, links: &mut [u32], f: u32) -> Answer
-    requires { ⌜ XReadable c (now sheet) i (now links) f ⌝ }
-    requires { ⌜ YReadable c (now sheet) i (now links) f ⌝ }
+    requires { ⌜ Readable c (now sheet) i (now links) f (recordFrom (now sheet) i .x) ⌝ }
+    requires { ⌜ Readable c (now sheet) i (now links) f (recordFrom (now sheet) i .y) ⌝ }
     ensures { λ r. ⌜ Moved (total c + 1) (followStep c (operandWith c (now (links .entry)) f (recordFrom (now (sheet .entry)) i .x)) (operandWith c (now (links .entry)) f (recordFrom (now (sheet .entry)) i .y)) (now (links .entry))) (record { links = now (links .exit); answer = r }) ⌝ }
 {
     let x = x_of(c, sheet, i, links, f);
@@ -49,8 +49,8 @@ pub(crate) fn follow_of(c: Counts, sheet: &[u8], i: usize, links: &mut [u32], f:
 }
 
 pub(crate) fn precede_of(c: Counts, sheet: &[u8], i: usize, links: &mut [u32], f: u32) -> Answer
-    requires { ⌜ XReadable c (now sheet) i (now links) f ⌝ }
-    requires { ⌜ YReadable c (now sheet) i (now links) f ⌝ }
+    requires { ⌜ Readable c (now sheet) i (now links) f (recordFrom (now sheet) i .x) ⌝ }
+    requires { ⌜ Readable c (now sheet) i (now links) f (recordFrom (now sheet) i .y) ⌝ }
     ensures { λ r. ⌜ Moved (total c + 1) (precedeStep c (operandWith c (now (links .entry)) f (recordFrom (now (sheet .entry)) i .x)) (operandWith c (now (links .entry)) f (recordFrom (now (sheet .entry)) i .y)) (now (links .entry))) (record { links = now (links .exit); answer = r }) ⌝ }
 {
     let x = x_of(c, sheet, i, links, f);
@@ -59,8 +59,8 @@ pub(crate) fn precede_of(c: Counts, sheet: &[u8], i: usize, links: &mut [u32], f
 }
 
 pub(crate) fn into_of(c: Counts, sheet: &[u8], i: usize, links: &mut [u32], f: u32) -> Answer
-    requires { ⌜ XReadable c (now sheet) i (now links) f ⌝ }
-    requires { ⌜ YReadable c (now sheet) i (now links) f ⌝ }
+    requires { ⌜ Readable c (now sheet) i (now links) f (recordFrom (now sheet) i .x) ⌝ }
+    requires { ⌜ Readable c (now sheet) i (now links) f (recordFrom (now sheet) i .y) ⌝ }
     ensures { λ r. ⌜ Moved (total c + 1) (intoStep c (operandWith c (now (links .entry)) f (recordFrom (now (sheet .entry)) i .x)) (operandWith c (now (links .entry)) f (recordFrom (now (sheet .entry)) i .y)) (now (links .entry))) (record { links = now (links .exit); answer = r }) ⌝ }
 {
     let x = x_of(c, sheet, i, links, f);
@@ -69,7 +69,7 @@ pub(crate) fn into_of(c: Counts, sheet: &[u8], i: usize, links: &mut [u32], f: u
 }
 
 pub(crate) fn clear_of(c: Counts, sheet: &[u8], i: usize, links: &mut [u32], f: u32) -> Answer
-    requires { ⌜ XReadable c (now sheet) i (now links) f ⌝ }
+    requires { ⌜ Readable c (now sheet) i (now links) f (recordFrom (now sheet) i .x) ⌝ }
     ensures { λ r. ⌜ Moved (total c + 1) (clearStep c (operandWith c (now (links .entry)) f (recordFrom (now (sheet .entry)) i .x)) (now (links .entry))) (record { links = now (links .exit); answer = r }) ⌝ }
 {
     let x = x_of(c, sheet, i, links, f);
@@ -103,7 +103,7 @@ pub(crate) fn wait_of(
     times: &mut [u64],
     f: u32,
 ) -> Answer
-    requires { ⌜ YReadable c (now sheet) i (now links) f ⌝ }
+    requires { ⌜ Readable c (now sheet) i (now links) f (recordFrom (now sheet) i .y) ⌝ }
     requires { ⌜ Judged c (now axis) ⌝ }
     ensures { λ r. ⌜ WaitMade c (waitStep c (operandWith c (now (links .entry)) f (recordFrom (now (sheet .entry)) i .y)) (now (links .entry)) (sqs (now (axis .entry)) (now (times .entry)))) (now (links .exit)) (now (axis .exit)) (now (times .exit)) r ⌝ }
 {
@@ -120,7 +120,7 @@ pub(crate) fn cancel_of(
     times: &mut [u64],
     f: u32,
 ) -> Answer
-    requires { ⌜ XReadable c (now sheet) i (now links) f ⌝ }
+    requires { ⌜ Readable c (now sheet) i (now links) f (recordFrom (now sheet) i .x) ⌝ }
     requires { ⌜ Judged c (now axis) ⌝ }
     ensures { λ r. ⌜ Answers (half c) (cancelStep c (operandWith c (now (links .entry)) f (recordFrom (now (sheet .entry)) i .x)) (sqs (now (axis .entry)) (now (times .entry)))) (now (axis .exit)) (now (times .exit)) r ⌝ }
 {
@@ -146,8 +146,8 @@ pub(crate) fn timed_of(
     f: u32,
     again: bool,
 ) -> Answer
-    requires { ⌜ XReadable c (now sheet) i (now links) f ⌝ }
-    requires { ⌜ YReadable c (now sheet) i (now links) f ⌝ }
+    requires { ⌜ Readable c (now sheet) i (now links) f (recordFrom (now sheet) i .x) ⌝ }
+    requires { ⌜ Readable c (now sheet) i (now links) f (recordFrom (now sheet) i .y) ⌝ }
     requires { ⌜ Judged c (now axis) ⌝ }
     ensures { λ r. ⌜ Answers (half c) (timedStep c again (recordFrom (now (sheet .entry)) i .clause) (operandWith c (now (links .entry)) f (recordFrom (now (sheet .entry)) i .x)) (operandWith c (now (links .entry)) f (recordFrom (now (sheet .entry)) i .y)) (recordFrom (now (sheet .entry)) i .t) (now (marks .entry)) (sqs (now (axis .entry)) (now (times .entry)))) (now (axis .exit)) (now (times .exit)) r ⌝ }
 {

@@ -24,7 +24,7 @@ ghost use mathlib.Core.Path.{_≡_};
 ghost use mathlib.Core.Logic.{_≢_};
 ghost use Rattle.model.specs.Ready.{Ready};
 ghost use Rattle.sheet.specs.Sheet.{recordOffset, recordFrom};
-ghost use Rattle.runs.specs.Needs.{XReadable, Performable};
+ghost use Rattle.runs.specs.Needs.{Readable, Performable};
 ghost use Rattle.runs.specs.Run.{recordGot};
 ghost use Rattle.runs.specs.Performed.{unlessRefused, branched, performed};
 
@@ -43,7 +43,7 @@ fn unless_refused(a: Answer, e: Effect) -> Effect
 
 // 12: x is a head, or refusal 3; where it is empty, the process goes to y.
 fn branch(c: Counts, sheet: &[u8], i: usize, links: &[u32], f: u32) -> Effect
-    requires { ⌜ XReadable c (now sheet) i (now links) f ⌝ }
+    requires { ⌜ Readable c (now sheet) i (now links) f (recordFrom (now sheet) i .x) ⌝ }
     ensures { λ r. ⌜ r ≡ branched c (recordFrom (now (sheet .entry)) i) f (now (links .entry)) ⌝ }
 {
     let x = x_of(c, sheet, i, links, f);

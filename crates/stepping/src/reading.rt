@@ -16,7 +16,7 @@ ghost use Rattle.sequencing.specs.Promise.{Judged};
 ghost use Rattle.sheet.specs.Sheet.{recordOffset, recordFrom};
 ghost use Rattle.sheet.specs.Accepted.{isOperand};
 ghost use Rattle.machine.specs.OnTables.{placeNow, operandWith};
-ghost use Rattle.runs.specs.Needs.{Resolvable, XReadable, YReadable};
+ghost use Rattle.runs.specs.Needs.{Resolvable, Readable};
 ghost use Rattle.runs.specs.Run.{recordGot};
 
 // Current's place in the axis.
@@ -96,14 +96,14 @@ pub(crate) fn operand(c: Counts, links: &[u32], f: u32, v: u32) -> u32
 
 // What x, and y, stand for in the record whose bytes begin at i.
 pub(crate) fn x_of(c: Counts, sheet: &[u8], i: usize, links: &[u32], f: u32) -> u32
-    requires { ⌜ XReadable c (now sheet) i (now links) f ⌝ }
+    requires { ⌜ Readable c (now sheet) i (now links) f (recordFrom (now sheet) i .x) ⌝ }
     ensures { λ r. ⌜ r ≡ operandWith c (now (links .entry)) f (recordFrom (now (sheet .entry)) i .x) ⌝ }
 {
     operand(c, links, f, x_at(sheet, i))
 }
 
 pub(crate) fn y_of(c: Counts, sheet: &[u8], i: usize, links: &[u32], f: u32) -> u32
-    requires { ⌜ YReadable c (now sheet) i (now links) f ⌝ }
+    requires { ⌜ Readable c (now sheet) i (now links) f (recordFrom (now sheet) i .y) ⌝ }
     ensures { λ r. ⌜ r ≡ operandWith c (now (links .entry)) f (recordFrom (now (sheet .entry)) i .y) ⌝ }
 {
     operand(c, links, f, y_at(sheet, i))
