@@ -2,6 +2,7 @@
 pub mod answer;
 pub mod fresh;
 pub mod judge;
+pub mod stretch;
 pub mod turns;
 
 use crate::fresh::fill;

@@ -1,15 +1,17 @@
-// Turn after turn on judged tables, until main has finished, the trace is full or a step is refused. Current's place, its time and the
-// record that it is at are kept beside the tables, and are read again only after a call that may change the first notice.
+// Turn after turn on judged tables, until main has finished, the trace is full or a step is refused: stretches of turns, and between them
+// a turn whose call is made apart.
+use crate::stretch::stretch;
 use counts::Counts;
 use machine::End;
-use runs::Effect;
+use model::verdict::Verdict;
+use runs::Pause;
 use runs::Ran;
+use stepping::apart::perform_apart;
+use stepping::apart::verdict_of;
 use stepping::move_on;
-use stepping::perform::perform;
 use stepping::reading::is_end;
 use stepping::reading::next_of;
 use stepping::reading::place_now;
-use stepping::reading::position;
 use stepping::reading::record_of;
 use stepping::reading::time_of;
 ghost use mathlib.Core.Path.{_≡_};
@@ -44,45 +46,58 @@ pub(crate) fn turns(
 {
     let room = trace.len() / 16;
     let mut n = 0;
-    let mut f = place_now(c, axis);
-    let mut time = time_of(times, f);
-    let mut r = record_of(positions, f);
     while n < room {
-        if is_end(f, r) {
-            return Ran {
-                lines: count(n),
-                end: End::Finished,
-            };
-        }
-        match perform(c, sheet, r, f, time, links, axis, times, marks, accums) {
-            Effect::Refused(q) => {
+        let s = stretch(
+            c,
+            sheet,
+            links,
+            axis,
+            times,
+            marks,
+            positions,
+            accums,
+            trace,
+            n,
+        );
+        n = s.lines;
+        let pause = s.pause;
+        match pause {
+            Pause::Full => {}
+            Pause::Refused(q) => {
                 return Ran {
                     lines: count(n),
                     end: End::Refused(q),
                 };
             }
-            Effect::Stays => {
-                let next = next_of(sheet, c.processes, r);
-                move_on(c, positions, trace, f, time, r, 16 * n, next);
-                r = next;
-                n += 1;
-            }
-            Effect::Jumps(y) => {
-                move_on(c, positions, trace, f, time, r, 16 * n, y);
-                r = y;
-                n += 1;
-            }
-            Effect::Moves => {
-                let next = next_of(sheet, c.processes, r);
-                move_on(c, positions, trace, f, time, r, 16 * n, next);
-                let g = place_now(c, axis);
-                r = position(positions, g, f, next);
-                time = time_of(times, g);
-                f = g;
-                n += 1;
+            Pause::Apart => {
+                let f = place_now(c, axis);
+                let r = record_of(positions, f);
+                if is_end(f, r) {
+                    return Ran {
+                        lines: count(n),
+                        end: End::Finished,
+                    };
+                }
+                let time = time_of(times, f);
+                let e = perform_apart(c, sheet, r, f, links, axis, times, marks);
+                match verdict_of(e) {
+                    Verdict::Refused(q) => {
+                        return Ran {
+                            lines: count(n),
+                            end: End::Refused(q),
+                        };
+                    }
+                    Verdict::Fine => {
+                        let next = next_of(sheet, c.processes, r);
+                        move_on(c, positions, trace, f, time, r, 16 * n, next);
+                        n += 1;
+                    }
+                }
             }
         }
     }
+    let f = place_now(c, axis);
+    let r = record_of(positions, f);
     if is_end(f, r) {
         return Ran {
             lines: count(n),

@@ -2,9 +2,10 @@
 use Prim.Native.Nat.{ℕ, _+_, _≤_}
 use mathlib.Core.Path.{_≡_, refl, sym, ap, _∙_}
 use mathlib.Core.Logic.{_≢_}
+use mathlib.Core.Bool.{false}
 use mathlib.Core.List.{List}
 use native.Mathlib.Omega.{arith}
-use lib.IntN.{ℤ}
+use lib.IntN.{ℤ, pos}
 use lib.Dec.{eqb}
 use borrow.Author.Tests.{eq-eqb, ne-eqb}
 use Rattle.rings.specs.Lists.{if_then_else_}
@@ -16,6 +17,7 @@ use Rattle.model.specs.Tables.{Tables, After}
 use Rattle.sets.specs.Procedures.{emptyOf}
 use Rattle.sets.specs.Calls.{Linked, telling, outStep, followStep, precedeStep, intoStep, clearStep}
 use Rattle.sets.specs.Promise.{Moved}
+use Rattle.sequencing.specs.Procedures.{Sqs, dueAt, activated}
 use Rattle.sequencing.specs.Promise.{sqs, Answers}
 use Rattle.sequencing.specs.StepPromise.{FinishMade, WaitMade}
 use Rattle.sequencing.specs.ReadPromise.{on-sqs, on-marks, on-sets}
@@ -29,6 +31,10 @@ use Rattle.runs.specs.declared.Effect.the-variants.{Stays, Jumps, Moves}
 use Rattle.runs.specs.Run.{resolved, callDue}
 use Rattle.runs.specs.Performed.{listEffect, callEffect, effectOf, unlessRefused, branched, performed}
 use Rattle.runs.specs.Which as which
+
+direct : (c : Counts) (x y : ℕ) (t : ℤ) (marks : List ℕ) (s : Sqs) → timedStep c false 0 x 0 (pos 0) marks s ≡ timedStep c false 0 x y t marks s
+unfolding timedStep activated dueAt
+direct c x y t marks s = refl
 
 module _ (c : Counts) (q : Record) (f : ℕ) (links axis times marks : List ℕ) (w : List ℤ) where
   abbrev t : Tables
@@ -132,6 +138,12 @@ module _ (c : Counts) (q : Record) (f : ℕ) (links axis times marks : List ℕ)
       arm-timed lo hi k =
           list-by (q .operation) refl (λ z. omega arith) r v (activate (eqb (q .operation) 11) (q .clause) x y (q .t)) (which.call-timed c links f q lo hi) _
           (on-sqs (half c) links axis times marks a u r (λ m s. timedStep c (eqb (q .operation) 11) (q .clause) x y (q .t) m s) k) ev
+
+      -- 10 with no clause, which uses neither y nor t
+      pub arm-10 : q .operation ≡ 10 → q .clause ≡ 0 → Answers (half c) (timedStep c false 0 x 0 (pos 0) marks (sqs axis times)) a u r → Axis
+      arm-10 e z k =
+          arm-timed (omega arith) (omega arith)
+          (rw (e, z, ← (direct c x y (q .t) marks (sqs axis times))) k)
 
       -- finish, at position 0
       pub arm-0 : (ms : List ℕ) → q .operation ≡ 0 → FinishMade c (finishStep c marks (sqs axis times)) a u ms r

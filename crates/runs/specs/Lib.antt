@@ -4,6 +4,7 @@ pub mod Performed
 pub mod Needs
 pub mod Reads
 pub mod Which
+pub mod Tried
 pub mod Arms
 pub mod Performing
 pub mod Standing
@@ -13,6 +14,8 @@ pub mod StepFollows
 pub mod TurnsFollow
 pub mod Turning
 pub mod Running
+pub mod Stretching
+pub mod Between
 pub mod Judging
 pub mod RunIs
 pub mod CallFollows

@@ -27,12 +27,16 @@ pub record Readable (c : Counts) (bytes : List ℕ) (i : ℕ) (links : List ℕ)
   pub operand : isOperand c v ≡ true
   pub resolvable : Resolvable c links f
 
--- to make its call: judged tables, fields in their ranges, current's place and time, and all accumulators
-pub record Performable (c : Counts) (bytes : List ℕ) (i f time : ℕ) (t : Tables) (words : List ℤ) : Type 0 where
+-- to make its call: judged tables, fields in their ranges, and current's place
+pub record Callable (c : Counts) (bytes : List ℕ) (i f : ℕ) (t : Tables) : Type 0 where
   pub ready : Ready c t
   pub inside : i + 24 ≤ length bytes
   pub records : ℕ
   pub ranged : Ranged (record { counts = c; records = records }) (recordFrom bytes i)
   pub place-is : f ≡ placeNow c (t .axis)
+
+-- to make one that uses the time or an accumulator: also current's time, and all accumulators
+pub record Performable (c : Counts) (bytes : List ℕ) (i f time : ℕ) (t : Tables) (words : List ℤ) : Type 0 where
+  pub callable : Callable c bytes i f t
   pub time-is : time ≡ timeAt c (t .axis) (t .times)
   pub words-all : length words ≡ 192

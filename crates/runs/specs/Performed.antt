@@ -9,6 +9,8 @@ use Rattle.counts.specs.declared.Counts.{Counts}
 use Rattle.counts.specs.Counts.{isHead}
 use Rattle.model.specs.declared.answer.Answer.{Answer}
 use Rattle.model.specs.declared.answer.Answer.the-variants.{Done, Linkage, Number, Truth, Refused as NotDone}
+use Rattle.model.specs.declared.verdict.Verdict.{Verdict}
+use Rattle.model.specs.declared.verdict.Verdict.the-variants.{Fine, Refused as Judged}
 use Rattle.model.specs.Tables.{Tables}
 use Rattle.sets.specs.Procedures.{emptyOf}
 use Rattle.sets.specs.Calls.{telling}
@@ -16,7 +18,7 @@ use Rattle.sheet.specs.declared.records.Record.{Record}
 use Rattle.machine.specs.Calls.{ListCall, onSet, hold, passivate, wait, cancel, activate, ifEmpty, finish, Call, onList, accum}
 use Rattle.machine.specs.OnTables.{operandWith, carriedOut}
 use Rattle.runs.specs.declared.Effect.{Effect}
-use Rattle.runs.specs.declared.Effect.the-variants.{Stays, Jumps, Moves, Refused}
+use Rattle.runs.specs.declared.Effect.the-variants.{Stays, Jumps, Moves, Refused, Apart}
 use Rattle.runs.specs.Run.{Turned, On, Off, resolved, callDue}
 
 -- a call that is no sequencing call leaves the first notice
@@ -63,9 +65,18 @@ performed c q f t w =
     let a = carriedOut c (callDue d) t w in
     record { tables = a .tables; words = a .words; effect = unlessRefused (a .answer) (effectOf (callDue d) q (emptyOf (d .x) (t .links))) }
 
--- where the process goes, by the record's next
+-- whether it was made
+abbrev pub verdictBy : Effect → Verdict
+verdictBy Stays = Fine
+verdictBy (Jumps y) = Fine
+verdictBy Moves = Fine
+verdictBy (Refused r) = Judged r
+verdictBy Apart = Fine
+
+-- where the process goes, by the record's next; no call that was made is Apart
 abbrev pub turnedBy : Effect → ℕ → Turned
 turnedBy Stays next = On next
 turnedBy (Jumps y) next = On y
 turnedBy Moves next = On next
 turnedBy (Refused r) next = Off r
+turnedBy Apart next = On next

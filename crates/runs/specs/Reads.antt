@@ -5,10 +5,10 @@ use mathlib.Core.Logic.{_≢_, ⊎-elim}
 use mathlib.Core.Bool.{Bool, true, false, _&&_}
 use mathlib.Core.List.{List}
 use native.Mathlib.Omega.{arith}
-use lib.Dec.{eqb}
+use lib.Dec.{leb, eqb}
 use lib.ListN.{length, getD}
-use borrow.Author.Tests.{eq-eqb, ne-eqb, lt-ltb, le-ltb}
-use Rattle.rings.specs.Lists.{decide}
+use borrow.Author.Tests.{eq-eqb, ne-eqb, lt-ltb, le-ltb, lt-leb, le-leb}
+use Rattle.rings.specs.Lists.{decide, below}
 use Rattle.counts.specs.declared.Counts.{Counts}
 use Rattle.counts.specs.declared.Refusal.the-variants.{Operand}
 use Rattle.counts.specs.Counts.{total, isHead}
@@ -22,6 +22,10 @@ use Rattle.runs.specs.Run.{endRecord, recordGot, endsNow}
 use Rattle.runs.specs.declared.Effect.the-variants.{Stays, Jumps, Refused}
 use Rattle.runs.specs.Performed.{branched}
 use Rattle.runs.specs.Needs.{Resolvable}
+
+and-false : (a : Bool) → (a && false) ≡ false
+and-false true = refl
+and-false false = refl
 
 module _ (c : Counts) (axis positions : List ℕ) (f : ℕ) (is : f ≡ placeNow c axis) where
   pub ends-other : f ≢ 1 → false ≡ endsNow c axis positions
@@ -42,10 +46,6 @@ module _ (c : Counts) (axis positions : List ℕ) (f : ℕ) (is : f ≡ placeNow
       and-true : (a : Bool) → (a && true) ≡ a
       and-true true = refl
       and-true false = refl
-
-      and-false : (a : Bool) → (a && false) ≡ false
-      and-false true = refl
-      and-false false = refl
 
 module _ (c : Counts) (links : List ℕ) (f v : ℕ) (z : Resolvable c links f) where
   pub operand-low : v ≤ total c → v ≡ operandWith c links f v
@@ -70,6 +70,22 @@ module _ (c : Counts) (links : List ℕ) (f v : ℕ) (z : Resolvable c links f) 
       pub operand-first : (r : ℕ) → r ≡ linkOr (c .heads) (getD links h 0) → r ≡ operandWith c links f v
       unfolding operandWith
       operand-first r is = rw (le-ltb v 65536 (above .0), ne-eqb v 65536 n) (is ∙ ap (λ (j : ℕ). linkOr (c .heads) (getD links j 0)) e)
+
+  -- an operand stands for a head only where it is its number
+  pub no-head : isOperand c v ≡ true → 0 < f → isHead c v ≡ false → isHead c (operandWith c links f v) ≡ false
+  unfolding linkOr
+  no-head o some e =
+      below (total c) v
+      (λ l. decide v 65536
+      (λ z. ap (isHead c) (sym (operand-current z)) ∙ above-heads (c .heads + f) (omega arith))
+      (λ n. ap (isHead c) (sym (operand-first o l n (v - 65536) refl (linkOr (c .heads) (getD links (v - 65536) 0)) refl)) ∙ first (getD links (v - 65536) 0)))
+      (λ l. ap (isHead c) (sym (operand-low l)) ∙ e)
+    where
+      above-heads : (x : ℕ) → c .heads < x → isHead c x ≡ false
+      above-heads x l = rw (lt-leb x (c .heads) l) (and-false (leb 1 x))
+
+      first : (x : ℕ) → isHead c (linkOr (c .heads) x) ≡ false
+      first x = below (c .heads) x (λ l. rw (lt-leb x (c .heads) l) (above-heads x l)) (λ l. rw (le-leb x (c .heads) l) refl)
 
 -- ---- 12
 

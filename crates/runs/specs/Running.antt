@@ -1,5 +1,5 @@
 -- The loop's variables: current's place, time and record beside the tables, and what a step makes of them.
-use Prim.Native.Nat.{ℕ, _+_, _*_, _/_, _<_}
+use Prim.Native.Nat.{ℕ, _+_, _*_, _<_}
 use mathlib.Core.Path.{_≡_, refl, sym, ap, _∙_}
 use mathlib.Core.Logic.{_≢_}
 use mathlib.Core.Bool.{Bool, true, false, _&&_}
@@ -13,11 +13,11 @@ use Rattle.sheet.specs.Sheet.{recordOffset}
 use Rattle.machine.specs.declared.End.the-variants.{Refused}
 use Rattle.machine.specs.OnTables.{placeNow, timeAt}
 use Rattle.runs.specs.declared.Effect.the-variants.{Refused as NotDone}
-use Rattle.runs.specs.Run.{RunTables, On, Off, Stepped, recordGot, recordAtNow, stepOn, endsNow, stoppedOn, turnsOn}
+use Rattle.runs.specs.Run.{RunTables, On, Off, Stepped, recordGot, recordAtNow, stepOn, endsNow, RanOn, stoppedOn}
 use Rattle.runs.specs.Performed.{Performed, performed, turnedBy}
 use Rattle.runs.specs.Needs.{Performable}
 use Rattle.runs.specs.Reads.{ends-at}
-use Rattle.runs.specs.Standing.{ready, its-call}
+use Rattle.runs.specs.Standing.{ready, its-step}
 use Rattle.runs.specs.StepIs.{Went, stayed, step-off, step-on, step-stays}
 use Rattle.runs.specs.Turning.{Turning, turning-on, turning-at, step-refused}
 
@@ -36,13 +36,13 @@ here-at c u f time r e et er =
       record-is = er ∙ ap (λ (j : ℕ). getD (u .positions) j 0) e;
     }
 
-module _ (c : Counts) (bytes : List ℕ) (room n : ℕ) (u₀ : RunTables) (tr₀ : List ℕ) (u : RunTables) (tr : List ℕ) (t : Turning c bytes room n u₀ tr₀ u tr)
+module _ (c : Counts) (bytes : List ℕ) (room n : ℕ) (whole : RanOn) (u₀ : RunTables) (tr₀ : List ℕ) (u : RunTables) (tr : List ℕ) (t : Turning c bytes room n whole u₀ tr₀ u tr)
     (f time r : ℕ) (at : Here c u f time r) where
   pub its-ready : Ready c (u .model)
   its-ready = ready c bytes u (t .stands)
 
   pub callable : r ≢ 0 → Performable c bytes (recordOffset (c .processes) r) f time (u .model) (u .words)
-  callable = its-call c bytes u (t .stands) f (at .place-is) r (at .record-is) time (at .time-is)
+  callable = its-step c bytes u (t .stands) f (at .place-is) r (at .record-is) time (at .time-is)
 
   pub ends : (b : Bool) → b ≡ (eqb r 0 && eqb f 1) → b ≡ endsNow c (u .model .axis) (u .positions)
   ends b = ends-at c (u .model .axis) (u .positions) f (at .place-is) r b (at .record-is ∙ ap (λ (j : ℕ). getD (u .positions) j 0) (sym (at .place-is)))
@@ -50,9 +50,9 @@ module _ (c : Counts) (bytes : List ℕ) (room n : ℕ) (u₀ : RunTables) (tr�
   module _ (h : n < room) (e : endsNow c (u .model .axis) (u .positions) ≡ false)
       (p : Performed) (ep : p ≡ performed c (recordGot (c .processes) bytes r) f (u .model) (u .words)) where
     pub turned-down : (k : ℕ) → k ≡ n → (x : Refusal) → p .effect ≡ NotDone x
-        → stoppedOn k (Refused x) (record { model = p .tables; positions = u .positions; words = p .words }) tr ≡ turnsOn c bytes 0 (length tr₀ / 16) u₀ tr₀
+        → stoppedOn k (Refused x) (record { model = p .tables; positions = u .positions; words = p .words }) tr ≡ whole
     turned-down k ek x ex =
-        step-refused c bytes room n u₀ tr₀ u tr t h e
+        step-refused c bytes room n whole u₀ tr₀ u tr t h e
         (record { run = record { model = p .tables; positions = u .positions; words = p .words }; trace = tr; turned = Off x })
         (step-off c bytes (16 * n) u tr f (at .place-is) r (at .record-is) time (at .time-is) p ep x ex) k ek x refl
 
@@ -67,12 +67,12 @@ module _ (c : Counts) (bytes : List ℕ) (room n : ℕ) (u₀ : RunTables) (tr�
       by-step : o ≡ stepOn c bytes (16 * n) u tr
       by-step = step-on c bytes (16 * n) u tr f (at .place-is) r (at .record-is) time (at .time-is) p ep next v ps tr′ g
 
-      pub goes-on : length tr′ ≡ length tr → Turning c bytes room (n + 1) u₀ tr₀ u′ tr′
-      goes-on z = turning-on c bytes room n u₀ tr₀ u tr t h e o by-step next refl z
+      pub goes-on : length tr′ ≡ length tr → Turning c bytes room (n + 1) whole u₀ tr₀ u′ tr′
+      goes-on z = turning-on c bytes room n whole u₀ tr₀ u tr t h e o by-step next refl z
 
       -- the process is at next
       pub moved-on : next ≡ getD ps f 0
-      moved-on = turning-at c bytes room n u₀ tr₀ u tr t h e o by-step next f refl (at .place-is)
+      moved-on = turning-at c bytes room n whole u₀ tr₀ u tr t h e o by-step next f refl (at .place-is)
 
       -- and stays current
       pub stays-here : stayed (p .effect) ≡ true → Here c u′ f time next

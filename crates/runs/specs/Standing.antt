@@ -20,7 +20,7 @@ use Rattle.sheet.specs.Ranges.{allowed-counts, record-inside, record-in}
 use Rattle.machine.specs.Machine.{Machine}
 use Rattle.machine.specs.OnTables.{placeNow, timeAt}
 use Rattle.runs.specs.Run.{RunTables, recordAtNow}
-use Rattle.runs.specs.Needs.{Performable}
+use Rattle.runs.specs.Needs.{Callable, Performable}
 
 -- these tables are the machine's: its lists spelled, "place 0 zero" and its positions, its triples' words
 pub record Stands (c : Counts) (R : ℕ) (m : Machine) (u : RunTables) : Type 0 where
@@ -107,15 +107,16 @@ module _ (c : Counts) (bytes : List ℕ) (u : RunTables) (s : Standing c bytes u
       pub its-record : r ≢ 0 → recordOffset (c .processes) r + 24 ≤ length bytes
       its-record = inside r (subst (λ (n : ℕ). n ≤ recordsOf bytes) (sym at) now-in)
 
-      pub its-call : (time : ℕ) → time ≡ timeAt c (u .model .axis) (u .model .times) → r ≢ 0
-          → Performable c bytes (recordOffset (c .processes) r) f time (u .model) (u .words)
-      its-call time et n =
+      pub its-call : r ≢ 0 → Callable c bytes (recordOffset (c .processes) r) f (u .model)
+      its-call n =
           record {
             ready = ready;
             inside = its-record n;
             records = recordsOf bytes;
             ranged = its-range r (subst (λ (k : ℕ). k ≤ recordsOf bytes) (sym at) now-in) n;
             place-is = is;
-            time-is = et;
-            words-all = words-length;
           }
+
+      pub its-step : (time : ℕ) → time ≡ timeAt c (u .model .axis) (u .model .times) → r ≢ 0
+          → Performable c bytes (recordOffset (c .processes) r) f time (u .model) (u .words)
+      its-step time et n = record { callable = its-call n; time-is = et; words-all = words-length }

@@ -21,7 +21,7 @@ use Rattle.machine.specs.Calls.{onSet, hold, passivate, wait, cancel, activate,
 use Rattle.machine.specs.Steps.{nextOf}
 use Rattle.machine.specs.OnTables.{placeNow, timeAt, tablesAfter, Carried, carriedOut}
 use Rattle.runs.specs.declared.Effect.{Effect}
-use Rattle.runs.specs.declared.Effect.the-variants.{Stays, Jumps, Moves, Refused}
+use Rattle.runs.specs.declared.Effect.the-variants.{Stays, Jumps, Moves, Refused, Apart}
 use Rattle.runs.specs.Run.{RunTables, Turned, On, Off, recordGot, resolved, callDue, turnedOf, moved, recordAtNow, dueIn, lineIn, stepOn}
 use Rattle.runs.specs.Performed.{callEffect, effectOf, unlessRefused, Performed, performed, turnedBy}
 use Rattle.runs.specs.Which.{call-12}
@@ -64,6 +64,7 @@ stayed Stays = true
 stayed (Jumps y) = true
 stayed Moves = false
 stayed (Refused r) = false
+stayed Apart = false
 
 module _ (c : Counts) (t : Tables) (w : List ℤ) where
   abbrev Kept : Call → Type 0

@@ -1,4 +1,4 @@
--- The loop over turns: what is left to do from here is what was to be done at first, and the tables are still a machine's.
+-- The loop over turns: what is left to do from here comes to the whole, and the tables are still a machine's.
 use Prim.Native.Nat.{ℕ, suc, _+_, _*_, _-_, _/_, _≤_, _<_}
 use mathlib.Core.Path.{_≡_, refl, sym, ap, _∙_, subst}
 use mathlib.Core.Bool.{true, false}
@@ -73,18 +73,19 @@ same-lengths c bytes u v s w =
 
 -- ---- the loop
 
-pub record Turning (c : Counts) (bytes : List ℕ) (room n : ℕ) (u₀ : RunTables) (tr₀ : List ℕ) (u : RunTables) (tr : List ℕ) : Type 0 where
+pub record Turning (c : Counts) (bytes : List ℕ) (room n : ℕ) (whole : RanOn) (u₀ : RunTables) (tr₀ : List ℕ) (u : RunTables) (tr : List ℕ) : Type 0 where
   pub begun : Standing c bytes u₀
   pub stands : Standing c bytes u
   pub size : length tr ≡ length tr₀
   pub room-is : room ≡ length tr₀ / 16
   pub short : length tr₀ ≤ 65536
   pub few : n ≤ room
-  pub same : (k : ℕ) → n + k ≡ room → turnsOn c bytes n k u tr ≡ turnsOn c bytes 0 room u₀ tr₀
+  pub same : (k : ℕ) → n + k ≡ room → turnsOn c bytes n k u tr ≡ whole
 
-pub turning-start : (c : Counts) (bytes : List ℕ) (u : RunTables) (tr : List ℕ) → Standing c bytes u → length tr ≤ 65536
-    → Turning c bytes (length tr / 16) 0 u tr u tr
-turning-start c bytes u tr s l =
+-- with n lines written, and room for j more
+pub turning-start : (c : Counts) (bytes : List ℕ) (n j : ℕ) (u : RunTables) (tr : List ℕ) → Standing c bytes u → length tr ≤ 65536 → n + j ≡ length tr / 16
+    → Turning c bytes (length tr / 16) n (turnsOn c bytes n j u tr) u tr u tr
+turning-start c bytes n j u tr s l q =
     record {
       begun = s;
       stands = s;
@@ -92,10 +93,17 @@ turning-start c bytes u tr s l =
       room-is = refl;
       short = l;
       few = omega arith;
-      same = λ k e. let q : k ≡ length tr / 16 = omega arith in ap (λ (j : ℕ). turnsOn c bytes 0 j u tr) q;
+      same = λ k e. let z : k ≡ j = omega arith in ap (λ (i : ℕ). turnsOn c bytes n i u tr) z;
     }
 
-module _ (c : Counts) (bytes : List ℕ) (room n : ℕ) (u₀ : RunTables) (tr₀ : List ℕ) (u : RunTables) (tr : List ℕ) (t : Turning c bytes room n u₀ tr₀ u tr) where
+-- turns that go on from where others stopped
+pub turning-then : (c : Counts) (bytes : List ℕ) (room n m : ℕ) (whole part : RanOn) (u₀ : RunTables) (tr₀ : List ℕ) (u : RunTables) (tr : List ℕ) (v : RunTables) (tv : List ℕ)
+    → Turning c bytes room n whole u₀ tr₀ u tr → part ≡ whole → Standing c bytes v → length tv ≡ length tr → m ≤ room
+    → ((k : ℕ) → m + k ≡ room → turnsOn c bytes m k v tv ≡ part) → Turning c bytes room m whole u₀ tr₀ v tv
+turning-then c bytes room n m whole part u₀ tr₀ u tr v tv t e s z l g =
+    record { begun = t .begun; stands = s; size = z ∙ t .size; room-is = t .room-is; short = t .short; few = l; same = λ k q. g k q ∙ e }
+
+module _ (c : Counts) (bytes : List ℕ) (room n : ℕ) (whole : RanOn) (u₀ : RunTables) (tr₀ : List ℕ) (u : RunTables) (tr : List ℕ) (t : Turning c bytes room n whole u₀ tr₀ u tr) where
   pub most-lines : n ≤ 4096
   most-lines = omega (arith, t .few, t .room-is, t .short)
 
@@ -107,15 +115,15 @@ module _ (c : Counts) (bytes : List ℕ) (room n : ℕ) (u₀ : RunTables) (tr�
     none-left : n + 0 ≡ room
     none-left = omega (arith, t .few)
 
-    pub out-finished : (k : ℕ) → k ≡ n → endsNow c (u .model .axis) (u .positions) ≡ true → stoppedOn k Finished u tr ≡ turnsOn c bytes 0 (length tr₀ / 16) u₀ tr₀
+    pub out-finished : (k : ℕ) → k ≡ n → endsNow c (u .model .axis) (u .positions) ≡ true → stoppedOn k Finished u tr ≡ whole
     unfolding turnsOn
     out-finished k e f =
-        ap (λ (j : ℕ). stoppedOn j Finished u tr) e ∙ (rw f at (t .same 0 none-left)) ∙ ap (λ (j : ℕ). turnsOn c bytes 0 j u₀ tr₀) (t .room-is)
+        ap (λ (j : ℕ). stoppedOn j Finished u tr) e ∙ (rw f at (t .same 0 none-left))
 
-    pub out-full : (k : ℕ) → k ≡ n → endsNow c (u .model .axis) (u .positions) ≡ false → stoppedOn k Full u tr ≡ turnsOn c bytes 0 (length tr₀ / 16) u₀ tr₀
+    pub out-full : (k : ℕ) → k ≡ n → endsNow c (u .model .axis) (u .positions) ≡ false → stoppedOn k Full u tr ≡ whole
     unfolding turnsOn
     out-full k e f =
-        ap (λ (j : ℕ). stoppedOn j Full u tr) e ∙ (rw f at (t .same 0 none-left)) ∙ ap (λ (j : ℕ). turnsOn c bytes 0 j u₀ tr₀) (t .room-is)
+        ap (λ (j : ℕ). stoppedOn j Full u tr) e ∙ (rw f at (t .same 0 none-left))
 
   -- with room for a line
   module _ (h : n < room) where
@@ -125,10 +133,10 @@ module _ (c : Counts) (bytes : List ℕ) (room n : ℕ) (u₀ : RunTables) (tr�
     one-left : n + suc rest ≡ room
     one-left = omega arith
 
-    pub in-finished : (k : ℕ) → k ≡ n → endsNow c (u .model .axis) (u .positions) ≡ true → stoppedOn k Finished u tr ≡ turnsOn c bytes 0 (length tr₀ / 16) u₀ tr₀
+    pub in-finished : (k : ℕ) → k ≡ n → endsNow c (u .model .axis) (u .positions) ≡ true → stoppedOn k Finished u tr ≡ whole
     unfolding turnsOn
     in-finished k e f =
-        ap (λ (j : ℕ). stoppedOn j Finished u tr) e ∙ (rw f at (t .same (suc rest) one-left)) ∙ ap (λ (j : ℕ). turnsOn c bytes 0 j u₀ tr₀) (t .room-is)
+        ap (λ (j : ℕ). stoppedOn j Finished u tr) e ∙ (rw f at (t .same (suc rest) one-left))
 
     -- what is left after a step, by what it came to
     abbrev goes : ℕ → Stepped → Turned → RanOn
@@ -145,15 +153,14 @@ module _ (c : Counts) (bytes : List ℕ) (room n : ℕ) (u₀ : RunTables) (tr�
       unfolding turnsOn
       by-step k = ap (λ (p : Stepped). goes k p (p .turned)) e ∙ sym (rw (f, turnsOn) (goes-is k (stepOn c bytes (16 * n) u tr) (stepOn c bytes (16 * n) u tr .turned)))
 
-      pub step-refused : (k : ℕ) → k ≡ n → (q : Refusal) → o .turned ≡ Off q → stoppedOn k (Refused q) (o .run) (o .trace) ≡ turnsOn c bytes 0 (length tr₀ / 16) u₀ tr₀
+      pub step-refused : (k : ℕ) → k ≡ n → (q : Refusal) → o .turned ≡ Off q → stoppedOn k (Refused q) (o .run) (o .trace) ≡ whole
       step-refused k ek q v =
           ap (λ (j : ℕ). stoppedOn j (Refused q) (o .run) (o .trace)) ek
           ∙ sym (ap (goes rest o) v)
           ∙ by-step rest
           ∙ t .same (suc rest) one-left
-          ∙ ap (λ (j : ℕ). turnsOn c bytes 0 j u₀ tr₀) (t .room-is)
 
-      pub turning-on : (next : ℕ) → o .turned ≡ On next → length (o .trace) ≡ length tr → Turning c bytes room (n + 1) u₀ tr₀ (o .run) (o .trace)
+      pub turning-on : (next : ℕ) → o .turned ≡ On next → length (o .trace) ≡ length tr → Turning c bytes room (n + 1) whole u₀ tr₀ (o .run) (o .trace)
       turning-on next v z =
           record {
             begun = t .begun;

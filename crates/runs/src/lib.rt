@@ -18,4 +18,21 @@ pub enum Effect {
     // Another may be current now.
     Moves,
     Refused(Refusal),
+    // The call is one of those that are made apart; it is not made yet.
+    Apart,
+}
+
+// Why a stretch of turns ends.
+pub enum Pause {
+    // The trace has no room for a line more.
+    Full,
+    // The call that is due is made apart.
+    Apart,
+    Refused(Refusal),
+}
+
+// A stretch of turns: how many lines the trace has after it, and why it ends.
+pub struct Stretch {
+    pub lines: usize,
+    pub pause: Pause,
 }

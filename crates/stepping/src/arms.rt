@@ -12,12 +12,15 @@ use simset::steps::into;
 use simset::steps::out;
 use simset::steps::precede;
 use simulation::steps::activate;
+use simulation::steps::activate_now;
 use simulation::steps::cancel;
 use simulation::steps::hold_now;
 use simulation::steps::wait;
 use updating::flat::update_in;
 ghost use mathlib.Core.Path.{_≡_};
+ghost use mathlib.Core.Bool.{false};
 ghost use Prim.Native.Nat.{_+_, _*_, _≤_};
+ghost use lib.IntN.{pos};
 ghost use lib.ListN.{length};
 ghost use Rattle.counts.specs.Counts.{total, limit};
 ghost use Rattle.sets.specs.Calls.{outStep, followStep, precedeStep, intoStep, clearStep};
@@ -132,6 +135,27 @@ fn wide_clause(k: u8) -> u32
     ensures { λ r. ⌜ r ≡ k ⌝ }
 {
     k as u32
+}
+
+// Activate with no clause.
+pub(crate) fn direct_of(
+    c: Counts,
+    sheet: &[u8],
+    i: usize,
+    links: &[u32],
+    axis: &mut [u32],
+    times: &mut [u64],
+    marks: &[u8],
+    f: u32,
+    time: u64,
+) -> Answer
+    requires { ⌜ Readable c (now sheet) i (now links) f (recordFrom (now sheet) i .x) ⌝ }
+    requires { ⌜ Judged c (now axis) ⌝ }
+    requires { ⌜ Noticed (half c) f time (now axis) (now times) ⌝ }
+    ensures { λ r. ⌜ Answers (half c) (timedStep c false 0 (operandWith c (now (links .entry)) f (recordFrom (now (sheet .entry)) i .x)) 0 (pos 0) (now (marks .entry)) (sqs (now (axis .entry)) (now (times .entry)))) (now (axis .exit)) (now (times .exit)) r ⌝ }
+{
+    let x = x_of(c, sheet, i, links, f);
+    activate_now(c, axis, times, marks, f, time, x)
 }
 
 // Activate, and again: reactivate.

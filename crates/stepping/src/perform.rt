@@ -1,35 +1,31 @@
-// The call of the record that current is at, on judged tables, and what it means for current.
+// The calls that a stretch of turns makes itself, on judged tables, and what they mean for current.
 use crate::arms::accum_of;
-use crate::arms::cancel_of;
-use crate::arms::clear_of;
-use crate::arms::follow_of;
+use crate::arms::direct_of;
 use crate::arms::hold_of;
 use crate::arms::into_of;
 use crate::arms::out_of;
-use crate::arms::precede_of;
-use crate::arms::timed_of;
 use crate::arms::wait_of;
-use crate::reading::x_of;
 use counts::Counts;
 use counts::Refusal;
 use model::answer::Answer;
 use ring::wide;
 use runs::Effect;
+use sheet::records::clause_at;
 use sheet::records::operation_at;
 use sheet::records::record_offset;
+use sheet::records::x_at;
 use sheet::records::y_at;
-use simulation::steps::finish;
-use simulation::steps::passivate;
 ghost use mathlib.Core.Path.{_≡_};
 ghost use mathlib.Core.Logic.{_≢_};
-ghost use Rattle.model.specs.Ready.{Ready};
+ghost use Prim.Native.Nat.{_<_};
 ghost use Rattle.sheet.specs.Sheet.{recordOffset, recordFrom};
 ghost use Rattle.runs.specs.Needs.{Readable, Performable};
 ghost use Rattle.runs.specs.Run.{recordGot};
-ghost use Rattle.runs.specs.Performed.{unlessRefused, branched, performed};
+ghost use Rattle.runs.specs.Performed.{unlessRefused, branched};
+ghost use Rattle.runs.specs.Tried.{tried};
 
 // An accepted call means e.
-fn unless_refused(a: Answer, e: Effect) -> Effect
+pub(crate) fn unless_refused(a: Answer, e: Effect) -> Effect
     ensures { λ r. ⌜ r ≡ unlessRefused a e ⌝ }
 {
     match a {
@@ -41,12 +37,13 @@ fn unless_refused(a: Answer, e: Effect) -> Effect
     }
 }
 
-// 12: x is a head, or refusal 3; where it is empty, the process goes to y.
+// 12: x is a head, or refusal 3; where it is empty, the process goes to y. No operand but a head's number stands for a head.
 fn branch(c: Counts, sheet: &[u8], i: usize, links: &[u32], f: u32) -> Effect
     requires { ⌜ Readable c (now sheet) i (now links) f (recordFrom (now sheet) i .x) ⌝ }
+    requires { ⌜ 0 < f ⌝ }
     ensures { λ r. ⌜ r ≡ branched c (recordFrom (now (sheet .entry)) i) f (now (links .entry)) ⌝ }
 {
-    let x = x_of(c, sheet, i, links, f);
+    let x = x_at(sheet, i);
     let ok = c.is_head(x);
     if !ok {
         return Effect::Refused(Refusal::Operand);
@@ -58,7 +55,7 @@ fn branch(c: Counts, sheet: &[u8], i: usize, links: &[u32], f: u32) -> Effect
     Effect::Stays
 }
 
-// The record whose bytes begin at i: one arm for each operation, and one for activate and reactivate.
+// The record whose bytes begin at i: an arm for each operation that is made here.
 fn perform_at(
     c: Counts,
     sheet: &[u8],
@@ -73,31 +70,30 @@ fn perform_at(
 ) -> Effect
     requires { ⌜ Performable c (now sheet) i f time (record { links = now links; axis = now axis; times = now times; marks = now marks }) (now accums) ⌝ }
     ensures { λ r. ⌜ record { tables = record { links = now (links .exit); axis = now (axis .exit); times = now (times .exit); marks = now (marks .exit) }; words = now (accums .exit); effect = r }
-        ≡ performed c (recordFrom (now (sheet .entry)) i) f (record { links = now (links .entry); axis = now (axis .entry); times = now (times .entry); marks = now (marks .entry) }) (now (accums .entry)) ⌝ }
+        ≡ tried c (recordFrom (now (sheet .entry)) i) f (record { links = now (links .entry); axis = now (axis .entry); times = now (times .entry); marks = now (marks .entry) }) (now (accums .entry)) ⌝ }
 {
     let op = operation_at(sheet, i);
     match op {
-        1 => unless_refused(out_of(c, sheet, i, links, f), Effect::Stays),
-        2 => unless_refused(follow_of(c, sheet, i, links, f), Effect::Stays),
-        3 => unless_refused(precede_of(c, sheet, i, links, f), Effect::Stays),
-        4 => unless_refused(into_of(c, sheet, i, links, f), Effect::Stays),
-        5 => unless_refused(clear_of(c, sheet, i, links, f), Effect::Stays),
-        6 => unless_refused(hold_of(c, sheet, i, axis, times, f, time), Effect::Moves),
-        7 => unless_refused(passivate(c, axis, times), Effect::Moves),
         8 => unless_refused(wait_of(c, sheet, i, links, axis, times, f), Effect::Moves),
-        9 => unless_refused(cancel_of(c, sheet, i, links, axis, times, f), Effect::Moves),
-        // no record has it: the arms begin at 0, and so finding one takes no subtraction
-        0 => Effect::Stays,
-        12 => branch(c, sheet, i, links, f),
         13 => unless_refused(accum_of(sheet, i, accums, time), Effect::Stays),
-        _ => unless_refused(
-            timed_of(c, sheet, i, links, axis, times, marks, f, op == 11),
-            Effect::Moves,
-        ),
+        12 => branch(c, sheet, i, links, f),
+        1 => unless_refused(out_of(c, sheet, i, links, f), Effect::Stays),
+        4 => unless_refused(into_of(c, sheet, i, links, f), Effect::Stays),
+        6 => unless_refused(hold_of(c, sheet, i, axis, times, f, time), Effect::Moves),
+        10 => {
+            if clause_at(sheet, i) != 0 {
+                return Effect::Apart;
+            }
+            unless_refused(
+                direct_of(c, sheet, i, links, axis, times, marks, f, time),
+                Effect::Moves,
+            )
+        }
+        _ => Effect::Apart,
     }
 }
 
-// Record r, or finish at 0; f is current's place, and time its time.
+// Record r, where its call is made here; f is current's place, and time its time.
 pub fn perform(
     c: Counts,
     sheet: &[u8],
@@ -107,16 +103,15 @@ pub fn perform(
     links: &mut [u32],
     axis: &mut [u32],
     times: &mut [u64],
-    marks: &mut [u8],
+    marks: &[u8],
     accums: &mut [i64],
 ) -> Effect
     requires { ⌜ (r ≢ 0 → Performable c (now sheet) (recordOffset (c .processes) r) f time (record { links = now links; axis = now axis; times = now times; marks = now marks }) (now accums)) ⌝ }
-    requires { ⌜ Ready c (record { links = now links; axis = now axis; times = now times; marks = now marks }) ⌝ }
     ensures { λ v. ⌜ record { tables = record { links = now (links .exit); axis = now (axis .exit); times = now (times .exit); marks = now (marks .exit) }; words = now (accums .exit); effect = v }
-        ≡ performed c (recordGot (c .processes) (now (sheet .entry)) r) f (record { links = now (links .entry); axis = now (axis .entry); times = now (times .entry); marks = now (marks .entry) }) (now (accums .entry)) ⌝ }
+        ≡ tried c (recordGot (c .processes) (now (sheet .entry)) r) f (record { links = now (links .entry); axis = now (axis .entry); times = now (times .entry); marks = now (marks .entry) }) (now (accums .entry)) ⌝ }
 {
     if r == 0 {
-        return unless_refused(finish(c, axis, times, marks), Effect::Moves);
+        return Effect::Apart;
     }
     let i = record_offset(c.processes, r);
     perform_at(c, sheet, i, f, time, links, axis, times, marks, accums)
