@@ -18,7 +18,7 @@ ghost use Prim.Native.Nat.{_-_, _/_, _≤_};
 ghost use lib.ListN.{length};
 ghost use Rattle.runs.specs.Run.{lent, turnsOn};
 ghost use Rattle.runs.specs.Standing.{Standing};
-ghost use Rattle.runs.specs.Stretching.{Paused};
+ghost use Rattle.runs.specs.Paused.{Paused};
 
 // From a trace of so many lines on; the trace's place is counted in bytes.
 pub(crate) fn stretch(

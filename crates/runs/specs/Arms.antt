@@ -36,6 +36,10 @@ direct : (c : Counts) (x y : ℕ) (t : ℤ) (marks : List ℕ) (s : Sqs) → tim
 unfolding timedStep activated dueAt
 direct c x y t marks s = refl
 
+delayed : (c : Counts) (x y : ℕ) (t : ℤ) (marks : List ℕ) (s : Sqs) → timedStep c false 2 x 0 t marks s ≡ timedStep c false 2 x y t marks s
+unfolding timedStep
+delayed c x y t marks s = refl
+
 module _ (c : Counts) (q : Record) (f : ℕ) (links axis times marks : List ℕ) (w : List ℤ) where
   abbrev t : Tables
   t = record { links = links; axis = axis; times = times; marks = marks }
@@ -144,6 +148,12 @@ module _ (c : Counts) (q : Record) (f : ℕ) (links axis times marks : List ℕ)
       arm-10 e z k =
           arm-timed (omega arith) (omega arith)
           (rw (e, z, ← (direct c x y (q .t) marks (sqs axis times))) k)
+
+      -- 10 after a delay
+      pub arm-delay : q .operation ≡ 10 → q .clause ≡ 2 → Answers (half c) (timedStep c false 2 x 0 (q .t) marks (sqs axis times)) a u r → Axis
+      arm-delay e z k =
+          arm-timed (omega arith) (omega arith)
+          (rw (e, z, ← (delayed c x y (q .t) marks (sqs axis times))) k)
 
       -- finish, at position 0
       pub arm-0 : (ms : List ℕ) → q .operation ≡ 0 → FinishMade c (finishStep c marks (sqs axis times)) a u ms r

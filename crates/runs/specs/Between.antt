@@ -8,8 +8,8 @@ use native.Mathlib.Omega.{arith}
 use lib.Dec.{eqb}
 use lib.IntN.{ℤ}
 use lib.ListN.{length, getD}
-use borrow.Author.Tests.{ne-eqb, eqb-true}
-use Rattle.rings.specs.Lists.{if_then_else_, test, clash}
+use borrow.Author.Tests.{ne-eqb}
+use Rattle.rings.specs.Lists.{if_then_else_, clash}
 use Rattle.counts.specs.declared.Counts.{Counts}
 use Rattle.counts.specs.declared.Refusal.{Refusal}
 use Rattle.model.specs.declared.answer.Answer.{Answer}
@@ -20,7 +20,7 @@ use Rattle.sets.specs.Procedures.{emptyOf}
 use Rattle.sheet.specs.declared.records.Record.{Record}
 use Rattle.sheet.specs.Sheet.{recordOffset}
 use Rattle.machine.specs.declared.End.the-variants.{Refused as Ended}
-use Rattle.machine.specs.Calls.{onSet, hold, passivate, wait, cancel, activate, ifEmpty, finish, Call, onList, accum}
+use Rattle.machine.specs.Calls.{Call}
 use Rattle.machine.specs.OnTables.{placeNow, carriedOut}
 use Rattle.runs.specs.declared.Effect.{Effect}
 use Rattle.runs.specs.declared.Effect.the-variants.{Stays, Jumps, Moves, Refused, Apart}
@@ -28,14 +28,14 @@ use Rattle.runs.specs.declared.Pause.{Pause}
 use Rattle.runs.specs.declared.Pause.the-variants.{Full, Apart as Due, Refused as Stopped}
 use Rattle.runs.specs.declared.Stretch.{Stretch}
 use Rattle.runs.specs.Run.{RunTables, On, recordGot, recordAtNow, resolved, callDue, endsNow, RanOn, stoppedOn, turnsOn}
-use Rattle.runs.specs.Performed.{callEffect, effectOf, unlessRefused, Performed, performed, verdictBy, turnedBy}
+use Rattle.runs.specs.Performed.{callEffect, stays-or-moves, effectOf, unlessRefused, Performed, performed, verdictBy, turnedBy}
 use Rattle.runs.specs.Tried.{apart, here-12}
 use Rattle.runs.specs.Needs.{Callable}
 use Rattle.runs.specs.Standing.{its-call}
 use Rattle.runs.specs.StepIs.{Went}
 use Rattle.runs.specs.Turning.{Turning, turning-then}
 use Rattle.runs.specs.Running.{Here, here-at, ends, turned-down, goes-on}
-use Rattle.runs.specs.Stretching.{leftBy, isFull, isDue, Paused}
+use Rattle.runs.specs.Paused.{leftBy, isFull, isDue, Paused}
 
 -- ---- by what the call came to
 
@@ -52,17 +52,6 @@ module _ (c : Counts) (q : Record) (f : ℕ) (t : Tables) (w : List ℤ) (a : ap
   unfolding effectOf
   plain k none = rw (ne-eqb (q .operation) 12 (λ e. let z : true ≡ false = sym a ∙ here-12 q e in clash (sym z)))
 
-  on : (k : Call) → turnedBy (callEffect k) (q .next) ≡ On (q .next)
-  on (onList (onSet s)) = refl
-  on (onList (hold z)) = refl
-  on (onList passivate) = refl
-  on (onList (wait y)) = refl
-  on (onList (cancel x)) = refl
-  on (onList (activate again cl x y z)) = refl
-  on (onList (ifEmpty x)) = refl
-  on (onList finish) = refl
-  on (accum n d) = refl
-
   pub goes-next : (p : Performed) → p ≡ performed c q f t w → Fine ≡ verdictBy (p .effect) → (next : ℕ) → next ≡ q .next → turnedBy (p .effect) (q .next) ≡ On next
   unfolding performed
   goes-next p is h next en =
@@ -77,7 +66,7 @@ module _ (c : Counts) (q : Record) (f : ℕ) (t : Tables) (w : List ℤ) (a : ap
       none = emptyOf (resolved c (t .links) f q .x) (t .links)
 
       made : turnedBy (effectOf k q none) (q .next) ≡ On (q .next)
-      made = ap (λ (v : Effect). turnedBy v (q .next)) (sym (plain k none)) ∙ on k
+      made = ap (λ (v : Effect). turnedBy v (q .next)) (sym (plain k none)) ∙ stays-or-moves (λ (v : Effect). turnedBy v (q .next) ≡ On (q .next)) refl refl k
 
       go : (r : Answer) → Fine ≡ verdictBy (unlessRefused r (effectOf k q none)) → turnedBy (unlessRefused r (effectOf k q none)) (q .next) ≡ On (q .next)
       go Done e = made

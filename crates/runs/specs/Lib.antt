@@ -14,6 +14,7 @@ pub mod StepFollows
 pub mod TurnsFollow
 pub mod Turning
 pub mod Running
+pub mod Paused
 pub mod Stretching
 pub mod Between
 pub mod Judging

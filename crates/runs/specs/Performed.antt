@@ -36,6 +36,18 @@ abbrev pub callEffect : Call → Effect
 callEffect (onList k) = listEffect k
 callEffect (accum k d) = Stays
 
+-- there is no third kind
+pub stays-or-moves : (P : Effect → Type 0) → P Stays → P Moves → (k : Call) → P (callEffect k)
+stays-or-moves P s m (onList (onSet k)) = s
+stays-or-moves P s m (onList (hold t)) = m
+stays-or-moves P s m (onList passivate) = m
+stays-or-moves P s m (onList (wait y)) = m
+stays-or-moves P s m (onList (cancel x)) = m
+stays-or-moves P s m (onList (activate again k x y t)) = m
+stays-or-moves P s m (onList (ifEmpty x)) = s
+stays-or-moves P s m (onList finish) = m
+stays-or-moves P s m (accum k d) = s
+
 -- "or to y when 12 finds the head empty"
 unfoldable pub effectOf : Call → Record → Bool → Effect
 effectOf k q none = if eqb (q .operation) 12 && none then Jumps (q .y) else callEffect k

@@ -23,7 +23,7 @@ use Rattle.machine.specs.OnTables.{placeNow, timeAt, tablesAfter, Carried, carr
 use Rattle.runs.specs.declared.Effect.{Effect}
 use Rattle.runs.specs.declared.Effect.the-variants.{Stays, Jumps, Moves, Refused, Apart}
 use Rattle.runs.specs.Run.{RunTables, Turned, On, Off, recordGot, resolved, callDue, turnedOf, moved, recordAtNow, dueIn, lineIn, stepOn}
-use Rattle.runs.specs.Performed.{callEffect, effectOf, unlessRefused, Performed, performed, turnedBy}
+use Rattle.runs.specs.Performed.{callEffect, stays-or-moves, effectOf, unlessRefused, Performed, performed, turnedBy}
 use Rattle.runs.specs.Which.{call-12}
 
 -- after an accepted call the process at place f is at next, and its line stands at byte i
@@ -36,18 +36,10 @@ pub record Went (c : Counts) (f time r i next : ℕ) (ps tr ps′ tr′ : List �
 module _ (k : Call) (q : Record) (none : Bool) where
   goes-on : On (nextOf q none) ≡ turnedBy (effectOf k q none) (q .next)
   unfolding nextOf effectOf
-  goes-on = test (eqb (q .operation) 12 && none) (λ e. rw e refl) (λ e. rw e (plain k))
-    where
-      plain : (j : Call) → On (q .next) ≡ turnedBy (callEffect j) (q .next)
-      plain (onList (onSet s)) = refl
-      plain (onList (hold t)) = refl
-      plain (onList passivate) = refl
-      plain (onList (wait y)) = refl
-      plain (onList (cancel x)) = refl
-      plain (onList (activate again cl x y t)) = refl
-      plain (onList (ifEmpty x)) = refl
-      plain (onList finish) = refl
-      plain (accum n d) = refl
+  goes-on =
+      test (eqb (q .operation) 12 && none)
+      (λ e. rw e refl)
+      (λ e. rw e (stays-or-moves (λ (v : Effect). On (q .next) ≡ turnedBy v (q .next)) refl refl k))
 
   turned-is : (a : Answer) → turnedOf a (nextOf q none) ≡ turnedBy (unlessRefused a (effectOf k q none)) (q .next)
   unfolding turnedOf

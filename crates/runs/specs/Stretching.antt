@@ -2,7 +2,7 @@
 use Prim.Native.Nat.{ℕ, _+_, _*_, _-_, _/_, _≤_, _<_}
 use mathlib.Core.Path.{_≡_, refl, sym, ap, subst, _∙_}
 use mathlib.Core.Logic.{_≢_}
-use mathlib.Core.Bool.{Bool, true, false, _&&_, _||_}
+use mathlib.Core.Bool.{Bool, true, false, _&&_}
 use mathlib.Core.List.{List}
 use native.Mathlib.Omega.{arith}
 use lib.Dec.{eqb}
@@ -21,48 +21,17 @@ use Rattle.trace.specs.Lines.{put, lineBytes}
 use Rattle.machine.specs.declared.End.the-variants.{Refused as Ended}
 use Rattle.machine.specs.OnTables.{placeNow}
 use Rattle.runs.specs.declared.Effect.the-variants.{Refused}
-use Rattle.runs.specs.declared.Pause.{Pause}
 use Rattle.runs.specs.declared.Pause.the-variants.{Full, Apart, Refused as Stopped}
-use Rattle.runs.specs.declared.Stretch.{Stretch}
 use Rattle.runs.specs.Run.{RunTables, On, recordGot, recordAtNow, endsNow, RanOn, stoppedOn, turnsOn}
 use Rattle.runs.specs.Performed.{Performed, performed, turnedBy}
 use Rattle.runs.specs.Tried.{apart, tried, isApart, apart-0, made-of, not-apart, left-of}
+use Rattle.runs.specs.Paused.{Paused}
 use Rattle.runs.specs.Needs.{Performable}
 use Rattle.runs.specs.Reads.{got-end}
 use Rattle.runs.specs.Standing.{Standing, place-in, positions-length, number-in}
 use Rattle.runs.specs.StepIs.{Went, stayed}
 use Rattle.runs.specs.Turning.{Turning, turning-start, line-fits, same-lengths}
 use Rattle.runs.specs.Running.{Here, here-at, callable, ends, turned-down, goes-on, moved-on, stays-here}
-
--- ---- what a stretch promises
-
--- what is left after it: the turns from here, or nothing after a refusal
-abbrev pub leftBy : Counts → List ℕ → Pause → ℕ → ℕ → RunTables → List ℕ → RanOn
-leftBy c bytes Full n k u tr = turnsOn c bytes n k u tr
-leftBy c bytes Apart n k u tr = turnsOn c bytes n k u tr
-leftBy c bytes (Stopped r) n k u tr = stoppedOn n (Ended r) u tr
-
-abbrev pub isFull : Pause → Bool
-isFull Full = true
-isFull Apart = false
-isFull (Stopped r) = false
-
-abbrev pub isDue : Pause → Bool
-isDue Full = false
-isDue Apart = true
-isDue (Stopped r) = false
-
--- it comes to what was to be done, and ends only for want of room, at a call that is made apart, or at a refusal
-pub record Paused (c : Counts) (bytes : List ℕ) (n₀ : ℕ) (whole : RanOn) (tr : List ℕ) (u′ : RunTables) (tr′ : List ℕ) (s : Stretch) : Type 0 where
-  pub stands : (isFull (s .pause) || isDue (s .pause)) ≡ true → Standing c bytes u′
-  pub size : length tr′ ≡ length tr
-  pub more : n₀ ≤ s .lines
-  pub few : s .lines ≤ length tr / 16
-  pub left : (k : ℕ) → s .lines + k ≡ length tr / 16 → leftBy c bytes (s .pause) (s .lines) k u′ tr′ ≡ whole
-  pub full : isFull (s .pause) ≡ true → length tr / 16 ≤ s .lines
-  pub due : isDue (s .pause) ≡ true → (s .lines < length tr / 16) × (apart (recordGot (c .processes) bytes (recordAtNow c u′)) ≡ true)
-
--- ---- its loop
 
 -- the tables with the process at place f at record r
 abbrev pub placed : RunTables → ℕ → ℕ → RunTables

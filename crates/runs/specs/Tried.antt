@@ -16,19 +16,19 @@ use Rattle.model.specs.declared.answer.Answer.the-variants.{Done, Linkage, Numb
 use Rattle.model.specs.Tables.{Tables}
 use Rattle.sets.specs.Procedures.{emptyOf}
 use Rattle.sheet.specs.declared.records.Record.{Record}
-use Rattle.machine.specs.Calls.{onSet, hold, passivate, wait, cancel, activate, ifEmpty, finish, Call, onList, accum}
+use Rattle.machine.specs.Calls.{Call}
 use Rattle.machine.specs.OnTables.{carriedOut}
 use Rattle.runs.specs.declared.Effect.{Effect}
 use Rattle.runs.specs.declared.Effect.the-variants.{Stays, Jumps, Moves, Refused, Apart}
 use Rattle.runs.specs.Run.{resolved, callDue}
 use Rattle.runs.specs.Which.{the-rest}
-use Rattle.runs.specs.Performed.{callEffect, effectOf, unlessRefused, Performed, performed}
+use Rattle.runs.specs.Performed.{callEffect, stays-or-moves, effectOf, unlessRefused, Performed, performed}
 
--- out, into, hold, wait, if-empty, accum, and activate with no clause are made in a stretch
+-- out, into, hold, wait, if-empty, accum, and activate with no clause or after a delay are made in a stretch
 unfoldable pub apart : Record → Bool
 apart q =
     let o = q .operation in
-    if eqb o 10 then not (eqb (q .clause) 0)
+    if eqb o 10 then not (eqb (q .clause) 0 || eqb (q .clause) 2)
     else not (eqb o 1 || (eqb o 4 || (eqb o 6 || (eqb o 8 || (eqb o 12 || eqb o 13)))))
 
 -- a call that is made apart is not made, and nothing has changed
@@ -58,6 +58,10 @@ module _ (q : Record) where
   unfolding apart
   here-10 e k = rw (e, k)
 
+  pub here-delay : q .operation ≡ 10 → q .clause ≡ 2 → apart q ≡ false
+  unfolding apart
+  here-delay e k = rw (e, k)
+
   pub here-12 : q .operation ≡ 12 → apart q ≡ false
   unfolding apart
   here-12 e = rw e
@@ -70,9 +74,9 @@ module _ (q : Record) where
   unfolding apart
   apart-0 e = rw e
 
-  pub apart-10 : q .operation ≡ 10 → q .clause ≢ 0 → apart q ≡ true
+  pub apart-10 : q .operation ≡ 10 → q .clause ≢ 2 → q .clause ≢ 0 → apart q ≡ true
   unfolding apart
-  apart-10 e n = rw (e, ne-eqb (q .clause) 0 n)
+  apart-10 e n z = rw (e, ne-eqb (q .clause) 2 n, ne-eqb (q .clause) 0 z)
 
   pub apart-other : (o : ℕ) → o ≡ q .operation → o ≢ 1 → o ≢ 4 → o ≢ 6 → o ≢ 8 → o ≢ 10 → o ≢ 12 → o ≢ 13 → apart q ≡ true
   unfolding apart
@@ -109,19 +113,8 @@ module _ (c : Counts) (q : Record) (f : ℕ) (t : Tables) (w : List ℤ) where
   unfolding effectOf
   never k none = go
     where
-      plain : (j : Call) → isApart (callEffect j) ≡ false
-      plain (onList (onSet s)) = refl
-      plain (onList (hold z)) = refl
-      plain (onList passivate) = refl
-      plain (onList (wait y)) = refl
-      plain (onList (cancel x)) = refl
-      plain (onList (activate again cl x y z)) = refl
-      plain (onList (ifEmpty x)) = refl
-      plain (onList finish) = refl
-      plain (accum n d) = refl
-
       on : isApart (if eqb (q .operation) 12 && none then Jumps (q .y) else callEffect k) ≡ false
-      on = test (eqb (q .operation) 12 && none) (λ e. rw e refl) (λ e. rw e (plain k))
+      on = test (eqb (q .operation) 12 && none) (λ e. rw e refl) (λ e. rw e (stays-or-moves (λ (v : Effect). isApart v ≡ false) refl refl k))
 
       go : (a : Answer) → isApart (unlessRefused a (if eqb (q .operation) 12 && none then Jumps (q .y) else callEffect k)) ≡ false
       go Done = on

@@ -203,6 +203,33 @@ pub(crate) fn activate_now(
     Answer::Done
 }
 
+// Activate after a delay, with the same known.
+pub(crate) fn activate_after(
+    axis: &mut [u32],
+    m: usize,
+    times: &mut [u64],
+    marks: &[u8],
+    f: u32,
+    time: u64,
+    x: u32,
+    d: u64,
+) -> Answer
+    requires { ⌜ Sound m (now axis) ⌝ }
+    requires { ⌜ x < m ⌝ }
+    requires { ⌜ m ≤ 1026 ⌝ }
+    requires { ⌜ Noticed m f time (now axis) (now times) ⌝ }
+    ensures { λ r. ⌜ Answers m (activated m false 2 x 0 d (now (marks .entry)) (sqs (now (axis .entry)) (now (times .entry)))) (now (axis .exit)) (now (times .exit)) r ⌝ }
+{
+    if is_vain(axis, m, marks, false, 2, x, 0) {
+        return Answer::Done;
+    }
+    if d > TIME_LIMIT - time {
+        return Answer::Refused(Refusal::TimeLimit);
+    }
+    schedule(axis, m, times, 2, x, 0, time, time + d);
+    Answer::Done
+}
+
 // T where that is above 0, else 0.
 pub(crate) fn above_zero(t: i64) -> u64
     ensures { λ r. ⌜ r ≡ above t ⌝ }

@@ -159,6 +159,31 @@ pub fn activate_now(
     activation::activate_now(axis, p + 2, times, marks, f, time, q)
 }
 
+// Activate after a delay, with the same known.
+pub fn activate_after(
+    c: Counts,
+    axis: &mut [u32],
+    times: &mut [u64],
+    marks: &[u8],
+    f: u32,
+    time: u64,
+    x: u32,
+    t: i64,
+) -> Answer
+    requires { ⌜ Judged c (now axis) ⌝ }
+    requires { ⌜ Noticed (half c) f time (now axis) (now times) ⌝ }
+    ensures { λ r. ⌜ Answers (half c) (timedStep c false 2 x 0 t (now (marks .entry)) (sqs (now (axis .entry)) (now (times .entry)))) (now (axis .exit)) (now (times .exit)) r ⌝ }
+{
+    let ok = process_or_none(c, x);
+    if !ok {
+        return Answer::Refused(Refusal::Operand);
+    }
+    let p = wide(c.processes);
+    let q = c.place_of(x);
+    let d = above_zero(t);
+    activation::activate_after(axis, p + 2, times, marks, f, time, q, d)
+}
+
 pub fn finish(c: Counts, axis: &mut [u32], times: &mut [u64], marks: &mut [u8]) -> Answer
     requires { ⌜ Judged c (now axis) ⌝ }
     ensures { λ r. ⌜ FinishMade c (finishStep c (now (marks .entry)) (sqs (now (axis .entry)) (now (times .entry)))) (now (axis .exit)) (now (times .exit)) (now (marks .exit)) r ⌝ }

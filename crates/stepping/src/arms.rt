@@ -12,6 +12,7 @@ use simset::steps::into;
 use simset::steps::out;
 use simset::steps::precede;
 use simulation::steps::activate;
+use simulation::steps::activate_after;
 use simulation::steps::activate_now;
 use simulation::steps::cancel;
 use simulation::steps::hold_now;
@@ -156,6 +157,28 @@ pub(crate) fn direct_of(
 {
     let x = x_of(c, sheet, i, links, f);
     activate_now(c, axis, times, marks, f, time, x)
+}
+
+// Activate after a delay.
+pub(crate) fn delayed_of(
+    c: Counts,
+    sheet: &[u8],
+    i: usize,
+    links: &[u32],
+    axis: &mut [u32],
+    times: &mut [u64],
+    marks: &[u8],
+    f: u32,
+    time: u64,
+) -> Answer
+    requires { ⌜ Readable c (now sheet) i (now links) f (recordFrom (now sheet) i .x) ⌝ }
+    requires { ⌜ Judged c (now axis) ⌝ }
+    requires { ⌜ Noticed (half c) f time (now axis) (now times) ⌝ }
+    ensures { λ r. ⌜ Answers (half c) (timedStep c false 2 (operandWith c (now (links .entry)) f (recordFrom (now (sheet .entry)) i .x)) 0 (recordFrom (now (sheet .entry)) i .t) (now (marks .entry)) (sqs (now (axis .entry)) (now (times .entry)))) (now (axis .exit)) (now (times .exit)) r ⌝ }
+{
+    let x = x_of(c, sheet, i, links, f);
+    let t = t_at(sheet, i);
+    activate_after(c, axis, times, marks, f, time, x, t)
 }
 
 // Activate, and again: reactivate.

@@ -1,5 +1,6 @@
 // The calls that a stretch of turns makes itself, on judged tables, and what they mean for current.
 use crate::arms::accum_of;
+use crate::arms::delayed_of;
 use crate::arms::direct_of;
 use crate::arms::hold_of;
 use crate::arms::into_of;
@@ -81,13 +82,20 @@ fn perform_at(
         4 => unless_refused(into_of(c, sheet, i, links, f), Effect::Stays),
         6 => unless_refused(hold_of(c, sheet, i, axis, times, f, time), Effect::Moves),
         10 => {
-            if clause_at(sheet, i) != 0 {
-                return Effect::Apart;
+            let k = clause_at(sheet, i);
+            if k == 2 {
+                return unless_refused(
+                    delayed_of(c, sheet, i, links, axis, times, marks, f, time),
+                    Effect::Moves,
+                );
             }
-            unless_refused(
-                direct_of(c, sheet, i, links, axis, times, marks, f, time),
-                Effect::Moves,
-            )
+            if k == 0 {
+                return unless_refused(
+                    direct_of(c, sheet, i, links, axis, times, marks, f, time),
+                    Effect::Moves,
+                );
+            }
+            Effect::Apart
         }
         _ => Effect::Apart,
     }

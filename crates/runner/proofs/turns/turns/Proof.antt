@@ -7,7 +7,7 @@ use Rattle.runs.specs.Run.{lent, turnsOn}
 use Rattle.runs.specs.Standing.{ready, its-judged, in-positions, in-times, number-in}
 use Rattle.runs.specs.Turning.{Turning, turning-start, most-lines, line-fits, in-finished, out-finished, out-full, same-lengths}
 use Rattle.runs.specs.Running.{here-at, ends}
-use Rattle.runs.specs.Stretching.{isFull, isDue}
+use Rattle.runs.specs.Paused.{isFull, isDue}
 use Rattle.runs.specs.Between.{paused-on, paused-off, few-lines, due-on, due-room, due-call, due-apart, due-ends, apart-down, apart-on}
 use borrow.Author.Needs.{needs}
 use native.Mathlib.Omega.{arith}

@@ -1,5 +1,5 @@
 use Rattle.simulation.proofs.Chained.{vain-0}
-use Rattle.simulation.proofs.Direct.{active-now}
+use Rattle.simulation.proofs.Soon.{active-now}
 use borrow.Author.Needs.{needs}
 use native.Mathlib.Omega.{arith}
 use Rattle.simulation.proofs.activation.activate_now.Statement.{statement}

@@ -1,6 +1,7 @@
+use lib.IntN.{pos}
 use Rattle.sequencing.specs.StepPromise.{process-in}
 use Rattle.sets.specs.Promise.{passed}
-use Rattle.simulation.proofs.Direct.{direct-3, direct-0}
+use Rattle.simulation.proofs.Soon.{soon-3, soon-0}
 use borrow.Author.Needs.{needs}
 use native.Mathlib.Omega.{arith}
 use Rattle.simulation.proofs.steps.activate_now.Statement.{statement}
@@ -10,7 +11,7 @@ process-or-none-requires : tie.Need-process-or-none-requires
 process-or-none-requires c κs = search needs
 
 returns : tie.Need-returns
-returns c = direct-3 _ _ _ _ _ _ (c .before .process-or-none .ensures) (c .before .before .before .before .before .pre .0 .sound) (c .if1 .taken)
+returns c = soon-3 _ _ _ _ _ _ (c .before .process-or-none .ensures) 0 (omega arith) (pos 0) (c .before .before .before .before .before .pre .0 .sound) (c .if1 .taken)
 
 wide-requires : tie.Need-wide-requires
 wide-requires c κs = search needs
@@ -31,7 +32,7 @@ same-length-2 : tie.Need-same-length-2
 same-length-2 c = search needs
 
 returns-2 : tie.Need-returns-2
-returns-2 c = direct-0 _ _ _ _ _ _ (c .before .before .before .before .before .before .before .before .before .before .process-or-none .ensures) (c .before .before .before .before .before .before .before .before .before .if1 .left) _ _ _ (rw (c .before .before .before .before .before .before .before .before .wide .ensures, c .before .before .before .before .before .before .before .place-of .ensures) at (c .before .before .before .before .activate-now .ensures))
+returns-2 c = soon-0 _ _ _ _ _ _ (c .before .before .before .before .before .before .before .before .before .before .process-or-none .ensures) 0 (omega arith) (pos 0) (c .before .before .before .before .before .before .before .before .before .if1 .left) _ _ _ (rw (c .before .before .before .before .before .before .before .before .wide .ensures, c .before .before .before .before .before .before .before .place-of .ensures) at (c .before .before .before .before .activate-now .ensures))
 
 pub activate-now-spec : {M : Type 1} → statement M
 activate-now-spec =
