@@ -10,7 +10,7 @@ use Rattle.counts.specs.declared.Counts.{Counts}
 use Rattle.counts.specs.Counts.{limit}
 use Rattle.model.specs.Tables.{Tables}
 use Rattle.sequencing.specs.Calls.{half}
-use Rattle.sequencing.specs.Promise.{Noticed, Judged, ready-judged}
+use Rattle.sequencing.specs.Promise.{Noticed, Judged, Takeable, ready-judged, ready-takeable}
 use Rattle.sheet.specs.declared.records.Record.{Record}
 use Rattle.sheet.specs.Sheet.{recordOffset, recordFrom}
 use Rattle.runs.specs.Run.{recordGot}
@@ -26,6 +26,9 @@ module _ (c : Counts) (bytes : List ℕ) (i f : ℕ) (t : Tables) (p : Callable 
 
   pub judged : Judged c (t .axis)
   judged = ready-judged c t (p .ready)
+
+  pub takeable : Takeable c (t .axis) (t .times)
+  takeable = ready-takeable c t (p .ready)
 
   pub place-some : 0 < f
   place-some = omega (arith, p .place-is, p .ready .first-some)

@@ -93,15 +93,17 @@ pub record AnswersMarked (m : ℕ) (want : Outcome) (wantMarks : List ℕ) (axis
   pub sound : Sound m axis
   pub marked : marks ≡ wantMarks
 
--- x's place is the first: the axis's own head, whose number is small, stands before it
-pub record First (m x : ℕ) (axis : List ℕ) : Type 0 where
+-- x's place is the first: the axis's own head, whose number is small, stands before it; and it has a word in the table of times
+pub record First (m x : ℕ) (axis times : List ℕ) : Type 0 where
   pub within : x < m
   pub small : m ≤ 1026
   pub led : getD axis (m + x) 0 ≡ m - 1
+  pub timed : x < length times
+  pub full : length times + 1 ≡ m
 
 -- the place behind the head is the first
-abbrev pub Led : ℕ → List ℕ → Type 0
-Led m a = First m (getD a (m - 1) 0) a
+abbrev pub Led : ℕ → List ℕ → List ℕ → Type 0
+Led m a t = First m (getD a (m - 1) 0) a t
 
 -- x's notice is the first, and this is its time
 pub record Noticed (m x time : ℕ) (axis times : List ℕ) : Type 0 where
@@ -109,8 +111,8 @@ pub record Noticed (m x time : ℕ) (axis times : List ℕ) : Type 0 where
   pub read : Read x times time
   pub within : time ≤ limit
 
-pub first-at : (m x : ℕ) (a : List ℕ) → Led m a → Place m (getD a (m - 1) 0) x → First m x a
-first-at m x a l p = subst (λ (y : ℕ). First m y a) (sym (p .is)) l
+pub first-at : (m x : ℕ) (a t : List ℕ) → Led m a t → Place m (getD a (m - 1) 0) x → First m x a t
+first-at m x a t l p = subst (λ (y : ℕ). First m y a t) (sym (p .is)) l
 
 -- ---- what a judged model gives the calls: limits, a sound axis, and a first notice
 
@@ -119,17 +121,28 @@ pub record Judged (c : Counts) (axis : List ℕ) : Type 0 where
   pub sound : Sound (c .processes + 2) axis
   pub first-some : 0 < getD axis (c .processes + 1) 0
   pub first-in : getD axis (c .processes + 1) 0 ≤ c .processes
-  pub first-led : Led (c .processes + 2) axis
 
-pub ready-judged : (c : Counts) (t : Tables) → Ready c t → Judged c (t .axis)
-ready-judged c t r =
-    let head : c .processes + 1 ≡ c .processes + 2 - 1 = omega arith in
-    record {
-      allowed = r .allowed;
-      sound = r .axis-sound;
-      first-some = r .first-some;
-      first-in = r .first-in;
-      first-led =
-          subst (λ (i : ℕ). First (c .processes + 2) (getD (t .axis) i 0) (t .axis)) head
-          (record { within = omega (arith, r .first-in); small = omega (arith, r .allowed .processes-in); led = r .first-led ∙ head });
-    }
+-- and those that take the first notice away: that it stands behind the head
+pub record Takeable (c : Counts) (axis times : List ℕ) : Type 0 where
+  pub judged : Judged c axis
+  pub first-led : Led (c .processes + 2) axis times
+
+module _ (c : Counts) (t : Tables) (r : Ready c t) where
+  pub ready-judged : Judged c (t .axis)
+  ready-judged = record { allowed = r .allowed; sound = r .axis-sound; first-some = r .first-some; first-in = r .first-in }
+
+  pub ready-takeable : Takeable c (t .axis) (t .times)
+  ready-takeable =
+      let head : c .processes + 1 ≡ c .processes + 2 - 1 = omega arith in
+      record {
+        judged = ready-judged;
+        first-led =
+            subst (λ (i : ℕ). First (c .processes + 2) (getD (t .axis) i 0) (t .axis) (t .times)) head
+            (record {
+              within = omega (arith, r .first-in);
+              small = omega (arith, r .allowed .processes-in);
+              led = r .first-led ∙ head;
+              timed = omega (arith, r .first-in, r .lengths .times-is);
+              full = omega (arith, r .lengths .times-is);
+            });
+      }

@@ -6,7 +6,7 @@ use ring::unlink_behind;
 use ring::wide;
 ghost use mathlib.Core.Path.{_≡_};
 ghost use Prim.Native.Nat.{_+_, _-_, _<_, _≤_};
-ghost use lib.ListN.{getD};
+ghost use lib.ListN.{length, getD};
 ghost use Rattle.rings.specs.Table.{Sound};
 ghost use Rattle.sequencing.specs.Procedures.{found, dropOn, putOn};
 ghost use Rattle.sequencing.specs.Promise.{sqs, Left, Place, Read, Stored, Lone, First, capped};
@@ -18,6 +18,14 @@ pub fn due(times: &[u64], i: usize) -> u64
     if i >= times.len() {
         return 0;
     }
+    times[i]
+}
+
+// The time at a place of the table.
+pub(crate) fn time_at(times: &[u64], i: usize) -> u64
+    requires { ⌜ i < length (now times) ⌝ }
+    ensures { λ r. ⌜ Read i (now (times .entry)) r ⌝ }
+{
     times[i]
 }
 
@@ -37,6 +45,14 @@ pub(crate) fn store(times: &mut [u64], i: usize, v: u64)
     if i >= times.len() {
         return;
     }
+    times[i] = v;
+}
+
+// The same, at a place of the table.
+pub(crate) fn set_time(times: &mut [u64], i: usize, v: u64)
+    requires { ⌜ i < length (now times) ⌝ }
+    ensures { λ _. ⌜ Stored i v (now (times .entry)) (now (times .exit)) ⌝ }
+{
     times[i] = v;
 }
 
@@ -111,11 +127,11 @@ fn own_head(m: usize) -> u32
 // Takes the first notice, x's, away.
 pub(crate) fn drop_first(axis: &mut [u32], m: usize, times: &mut [u64], x: u32)
     requires { ⌜ Sound m (now axis) ⌝ }
-    requires { ⌜ First m x (now axis) ⌝ }
+    requires { ⌜ First m x (now axis) (now times) ⌝ }
     ensures { λ _. ⌜ Left m (dropOn m x (sqs (now (axis .entry)) (now (times .entry)))) (now (axis .exit)) (now (times .exit)) ⌝ }
 {
     unlink_behind(axis, m, wide(x), own_head(m));
-    store(times, wide(x), 0);
+    set_time(times, wide(x), 0);
 }
 
 // A notice for x, which has none, at time u behind the place q.
@@ -149,10 +165,11 @@ pub(crate) fn lone(axis: &[u32], m: usize) -> bool
 // The first notice, x's, moves: at time u behind the last whose time is below w.
 pub(crate) fn move_to(axis: &mut [u32], m: usize, times: &mut [u64], x: u32, w: u64, u: u64)
     requires { ⌜ Sound m (now axis) ⌝ }
-    requires { ⌜ First m x (now axis) ⌝ }
+    requires { ⌜ First m x (now axis) (now times) ⌝ }
     ensures { λ _. ⌜ Left m (putOn m x (found m w (dropOn m x (sqs (now (axis .entry)) (now (times .entry))))) u (dropOn m x (sqs (now (axis .entry)) (now (times .entry))))) (now (axis .exit)) (now (times .exit)) ⌝ }
 {
     drop_first(axis, m, times, x);
     let q = seek(axis, m, times, w);
-    put(axis, m, times, x, q, u);
+    link_behind(axis, m, x, q);
+    set_time(times, wide(x), u);
 }

@@ -6,7 +6,8 @@ use crate::axis::first;
 use crate::axis::lone;
 use crate::axis::mark;
 use crate::axis::move_to;
-use crate::axis::store;
+use crate::axis::set_time;
+use crate::axis::time_at;
 use counts::Refusal;
 use counts::TIME_LIMIT;
 use model::answer::Answer;
@@ -20,18 +21,18 @@ ghost use Rattle.sequencing.specs.Promise.{sqs, Left, Answers, AnswersMarked, F
 // x's notice gets the time u; where the next is due by then, it goes behind all due by then.
 pub(crate) fn hold_at(axis: &mut [u32], m: usize, times: &mut [u64], x: u32, u: u64)
     requires { ⌜ Sound m (now axis) ⌝ }
-    requires { ⌜ First m x (now axis) ⌝ }
+    requires { ⌜ First m x (now axis) (now times) ⌝ }
     requires { ⌜ u ≤ limit ⌝ }
     ensures { λ _. ⌜ Left m (heldAt m x u (sqs (now (axis .entry)) (now (times .entry)))) (now (axis .exit)) (now (times .exit)) ⌝ }
 {
     let c = wide(x);
     let s = wide(axis[c]);
     if s == m - 1 {
-        store(times, c, u);
+        set_time(times, c, u);
         return;
     }
-    if u < due(times, s) {
-        store(times, c, u);
+    if u < time_at(times, s) {
+        set_time(times, c, u);
         return;
     }
     move_to(axis, m, times, x, u + 1, u);
@@ -47,7 +48,7 @@ pub(crate) fn hold_first(
     d: u64,
 ) -> Answer
     requires { ⌜ Sound m (now axis) ⌝ }
-    requires { ⌜ Led m (now axis) ⌝ }
+    requires { ⌜ Led m (now axis) (now times) ⌝ }
     requires { ⌜ Noticed m x time (now axis) (now times) ⌝ }
     ensures { λ r. ⌜ Answers m (held m d (sqs (now (axis .entry)) (now (times .entry)))) (now (axis .exit)) (now (times .exit)) r ⌝ }
 {
@@ -61,7 +62,7 @@ pub(crate) fn hold_first(
 // Hold.
 pub(crate) fn hold(axis: &mut [u32], m: usize, times: &mut [u64], d: u64) -> Answer
     requires { ⌜ Sound m (now axis) ⌝ }
-    requires { ⌜ Led m (now axis) ⌝ }
+    requires { ⌜ Led m (now axis) (now times) ⌝ }
     ensures { λ r. ⌜ Answers m (held m d (sqs (now (axis .entry)) (now (times .entry)))) (now (axis .exit)) (now (times .exit)) r ⌝ }
 {
     let c = first(axis, m);
@@ -75,7 +76,7 @@ pub(crate) fn hold(axis: &mut [u32], m: usize, times: &mut [u64], d: u64) -> Ans
 // Passivate.
 pub(crate) fn passivate(axis: &mut [u32], m: usize, times: &mut [u64]) -> Answer
     requires { ⌜ Sound m (now axis) ⌝ }
-    requires { ⌜ Led m (now axis) ⌝ }
+    requires { ⌜ Led m (now axis) (now times) ⌝ }
     ensures { λ r. ⌜ Answers m (passivated m (sqs (now (axis .entry)) (now (times .entry)))) (now (axis .exit)) (now (times .exit)) r ⌝ }
 {
     if lone(axis, m) {
@@ -106,7 +107,7 @@ pub(crate) fn cancel(axis: &mut [u32], m: usize, times: &mut [u64], x: u32) -> A
 // Finish: current is marked terminated, then passivated.
 pub(crate) fn finish(axis: &mut [u32], m: usize, times: &mut [u64], marks: &mut [u8]) -> Answer
     requires { ⌜ Sound m (now axis) ⌝ }
-    requires { ⌜ Led m (now axis) ⌝ }
+    requires { ⌜ Led m (now axis) (now times) ⌝ }
     ensures { λ r. ⌜ AnswersMarked m (passivated m (sqs (now (axis .entry)) (now (times .entry)))) (finishedMarks m (now (marks .entry)) (sqs (now (axis .entry)) (now (times .entry)))) (now (axis .exit)) (now (times .exit)) (now (marks .exit)) r ⌝ }
 {
     if lone(axis, m) {

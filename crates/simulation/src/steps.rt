@@ -20,7 +20,7 @@ ghost use Rattle.counts.specs.Counts.{isProcess, total};
 ghost use Rattle.sets.specs.Calls.{orNone};
 ghost use Rattle.sequencing.specs.Plain.{timedNeed};
 ghost use Rattle.sequencing.specs.Calls.{half, yPlace, holdStep, passivateStep, cancelStep, timedStep, finishStep, waitStep};
-ghost use Rattle.sequencing.specs.Promise.{sqs, Answers, Judged, Noticed};
+ghost use Rattle.sequencing.specs.Promise.{sqs, Answers, Judged, Takeable, Noticed};
 ghost use Rattle.sequencing.specs.StepPromise.{FinishMade, WaitMade};
 
 // A process, or none.
@@ -34,7 +34,7 @@ pub fn process_or_none(c: Counts, x: u32) -> bool
 }
 
 pub fn hold(c: Counts, axis: &mut [u32], times: &mut [u64], t: i64) -> Answer
-    requires { ⌜ Judged c (now axis) ⌝ }
+    requires { ⌜ Takeable c (now axis) (now times) ⌝ }
     ensures { λ r. ⌜ Answers (half c) (holdStep c t (sqs (now (axis .entry)) (now (times .entry)))) (now (axis .exit)) (now (times .exit)) r ⌝ }
 {
     let p = wide(c.processes);
@@ -44,7 +44,7 @@ pub fn hold(c: Counts, axis: &mut [u32], times: &mut [u64], t: i64) -> Answer
 
 // Hold, where current's place and time are known.
 pub fn hold_now(c: Counts, axis: &mut [u32], times: &mut [u64], f: u32, time: u64, t: i64) -> Answer
-    requires { ⌜ Judged c (now axis) ⌝ }
+    requires { ⌜ Takeable c (now axis) (now times) ⌝ }
     requires { ⌜ Noticed (half c) f time (now axis) (now times) ⌝ }
     ensures { λ r. ⌜ Answers (half c) (holdStep c t (sqs (now (axis .entry)) (now (times .entry)))) (now (axis .exit)) (now (times .exit)) r ⌝ }
 {
@@ -54,7 +54,7 @@ pub fn hold_now(c: Counts, axis: &mut [u32], times: &mut [u64], f: u32, time: u6
 }
 
 pub fn passivate(c: Counts, axis: &mut [u32], times: &mut [u64]) -> Answer
-    requires { ⌜ Judged c (now axis) ⌝ }
+    requires { ⌜ Takeable c (now axis) (now times) ⌝ }
     ensures { λ r. ⌜ Answers (half c) (passivateStep c (sqs (now (axis .entry)) (now (times .entry)))) (now (axis .exit)) (now (times .exit)) r ⌝ }
 {
     let p = wide(c.processes);
@@ -185,7 +185,7 @@ pub fn activate_after(
 }
 
 pub fn finish(c: Counts, axis: &mut [u32], times: &mut [u64], marks: &mut [u8]) -> Answer
-    requires { ⌜ Judged c (now axis) ⌝ }
+    requires { ⌜ Takeable c (now axis) (now times) ⌝ }
     ensures { λ r. ⌜ FinishMade c (finishStep c (now (marks .entry)) (sqs (now (axis .entry)) (now (times .entry)))) (now (axis .exit)) (now (times .exit)) (now (marks .exit)) r ⌝ }
 {
     let p = wide(c.processes);
@@ -205,7 +205,7 @@ pub fn current_link(c: Counts, f: u32) -> u32
 }
 
 pub fn wait(c: Counts, links: &mut [u32], axis: &mut [u32], times: &mut [u64], y: u32) -> Answer
-    requires { ⌜ Judged c (now axis) ⌝ }
+    requires { ⌜ Takeable c (now axis) (now times) ⌝ }
     requires { ⌜ Sound (total c + 1) (now links) ⌝ }
     ensures { λ r. ⌜ WaitMade c (waitStep c y (now (links .entry)) (sqs (now (axis .entry)) (now (times .entry)))) (now (links .exit)) (now (axis .exit)) (now (times .exit)) r ⌝ }
 {

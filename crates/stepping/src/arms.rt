@@ -27,7 +27,7 @@ ghost use Rattle.counts.specs.Counts.{total, limit};
 ghost use Rattle.sets.specs.Calls.{outStep, followStep, precedeStep, intoStep, clearStep};
 ghost use Rattle.sets.specs.Promise.{Moved};
 ghost use Rattle.sequencing.specs.Calls.{half, holdStep, cancelStep, timedStep, waitStep};
-ghost use Rattle.sequencing.specs.Promise.{sqs, Answers, Judged, Noticed};
+ghost use Rattle.sequencing.specs.Promise.{sqs, Answers, Judged, Takeable, Noticed};
 ghost use Rattle.sequencing.specs.StepPromise.{WaitMade};
 ghost use Rattle.accumulator.specs.Flat.{updatedIn};
 ghost use Rattle.sheet.specs.Sheet.{recordFrom};
@@ -90,7 +90,7 @@ pub(crate) fn hold_of(
     time: u64,
 ) -> Answer
     requires { ⌜ i + 24 ≤ length (now sheet) ⌝ }
-    requires { ⌜ Judged c (now axis) ⌝ }
+    requires { ⌜ Takeable c (now axis) (now times) ⌝ }
     requires { ⌜ Noticed (half c) f time (now axis) (now times) ⌝ }
     ensures { λ r. ⌜ Answers (half c) (holdStep c (recordFrom (now (sheet .entry)) i .t) (sqs (now (axis .entry)) (now (times .entry)))) (now (axis .exit)) (now (times .exit)) r ⌝ }
 {
@@ -108,7 +108,7 @@ pub(crate) fn wait_of(
     f: u32,
 ) -> Answer
     requires { ⌜ Readable c (now sheet) i (now links) f (recordFrom (now sheet) i .y) ⌝ }
-    requires { ⌜ Judged c (now axis) ⌝ }
+    requires { ⌜ Takeable c (now axis) (now times) ⌝ }
     ensures { λ r. ⌜ WaitMade c (waitStep c (operandWith c (now (links .entry)) f (recordFrom (now (sheet .entry)) i .y)) (now (links .entry)) (sqs (now (axis .entry)) (now (times .entry)))) (now (links .exit)) (now (axis .exit)) (now (times .exit)) r ⌝ }
 {
     let y = y_of(c, sheet, i, links, f);

@@ -1,6 +1,6 @@
 use mathlib.Core.Path.{sym, _∙_}
 use Rattle.model.specs.Ready.{judged-ready}
-use Rattle.sequencing.specs.Promise.{ready-judged}
+use Rattle.sequencing.specs.Promise.{ready-takeable}
 use mathlib.Core.List.{List}
 use Prim.Native.Nat.{ℕ}
 use Rattle.model.specs.Answers.{called-turned, called-fine}
@@ -21,7 +21,7 @@ enum-told : tie.Need-enum-told
 enum-told c = search needs
 
 finish-requires : tie.Need-finish-requires
-finish-requires c κs = ready-judged _ _ (judged-ready _ _ (sym (c .before .before .before .before .before .judge-tables .ensures) ∙ c .before .before .before .enum-told .given .1))
+finish-requires c κs = ready-takeable _ _ (judged-ready _ _ (sym (c .before .before .before .before .before .judge-tables .ensures) ∙ c .before .before .before .enum-told .given .1))
 
 same-length : tie.Need-same-length
 same-length c = search needs

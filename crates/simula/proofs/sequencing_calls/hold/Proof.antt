@@ -2,7 +2,7 @@ use lib.IntN.{ℤ}
 use Rattle.sequencing.specs.ReadPromise.{on-signed}
 use mathlib.Core.Path.{sym, _∙_}
 use Rattle.model.specs.Ready.{judged-ready}
-use Rattle.sequencing.specs.Promise.{ready-judged}
+use Rattle.sequencing.specs.Promise.{ready-takeable}
 use mathlib.Core.List.{List}
 use Prim.Native.Nat.{ℕ}
 use Rattle.model.specs.Answers.{called-turned, called-fine}
@@ -22,7 +22,7 @@ enum-told : tie.Need-enum-told
 enum-told c = search needs
 
 hold-requires : tie.Need-hold-requires
-hold-requires c κs = ready-judged _ _ (judged-ready _ _ (sym (c .before .before .before .before .judge-tables .ensures) ∙ c .before .before .enum-told .given .1))
+hold-requires c κs = ready-takeable _ _ (judged-ready _ _ (sym (c .before .before .before .before .judge-tables .ensures) ∙ c .before .before .enum-told .given .1))
 
 same-length : tie.Need-same-length
 same-length c = search needs

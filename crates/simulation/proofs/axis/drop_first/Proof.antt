@@ -17,8 +17,8 @@ unlink-behind-requires c κs = rw ((c .before .wide .ensures)) ((c .before .befo
 wide-requires-2 : tie.Need-wide-requires-2
 wide-requires-2 c κs = search needs
 
-store-requires : tie.Need-store-requires
-store-requires c κs = search needs
+set-time-requires : tie.Need-set-time-requires
+set-time-requires c κs = omega (arith, c .wide2 .ensures, c .before .before .before .before .before .before .before .before .before .before .pre .1 .timed)
 
 same-length : tie.Need-same-length
 same-length c = search needs
@@ -27,7 +27,7 @@ same-length-2 : tie.Need-same-length-2
 same-length-2 c = search needs
 
 returns : tie.Need-returns
-returns c = dropped-by _ _ _ _ _ _ _ _ (c .before .before .before .before .before .before .before .before .before .wide .ensures) (c .before .before .before .before .before .before .before .unlink-behind .ensures) (c .before .before .before .wide2 .ensures) (c .before .before .store .ensures)
+returns c = dropped-by _ _ _ _ _ _ _ _ (c .before .before .before .before .before .before .before .before .before .wide .ensures) (c .before .before .before .before .before .before .before .unlink-behind .ensures) (c .before .before .before .wide2 .ensures) (c .before .before .set-time .ensures)
 
 pub drop-first-spec : {M : Type 1} → statement M
 drop-first-spec =
@@ -37,7 +37,7 @@ drop-first-spec =
     own-head-requires
     unlink-behind-requires
     wide-requires-2
-    store-requires
+    set-time-requires
     same-length
     same-length-2
     returns)

@@ -23,7 +23,7 @@ mark-requires : tie.Need-mark-requires
 mark-requires c κs = search needs
 
 drop-first-requires : tie.Need-drop-first-requires
-drop-first-requires c κs = ((c .before .before .before .before .before .before .before .before .before .before .before .before .before .before .before .pre .0), first-at _ _ _ (c .before .before .before .before .before .before .before .before .before .before .before .before .before .before .before .pre .1) (c .before .before .before .before .before .before .before .first .ensures))
+drop-first-requires c κs = ((c .before .before .before .before .before .before .before .before .before .before .before .before .before .before .before .pre .0), first-at _ _ _ _ (c .before .before .before .before .before .before .before .before .before .before .before .before .before .before .before .pre .1) (c .before .before .before .before .before .before .before .first .ensures))
 
 same-length-2 : tie.Need-same-length-2
 same-length-2 c = search needs

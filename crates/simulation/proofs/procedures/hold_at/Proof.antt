@@ -1,3 +1,4 @@
+use native.Mathlib.Omega.{arith}
 use borrow.Author.Needs.{needs}
 use Rattle.simulation.proofs.Chained.{held-last, held-soon, held-moved}
 use Rattle.simulation.proofs.procedures.hold_at.Statement.{statement}
@@ -18,26 +19,26 @@ wide-requires-2 c κs = search needs
 sub-if1 : tie.Need-sub-if1
 sub-if1 c = search needs
 
-store-requires : tie.Need-store-requires
-store-requires c κs = search needs
+set-time-requires : tie.Need-set-time-requires
+set-time-requires c κs = omega (arith, c .before .before .before .before .wide .ensures, c .before .before .before .before .before .before .before .pre .1 .0 .timed)
 
 same-length : tie.Need-same-length
 same-length c = search needs
 
 returns : tie.Need-returns
-returns c = held-last _ _ _ _ _ _ _ (c .before .before .before .before .before .before .before .wide .ensures) (c .before .before .before .before .before .wide2 .ensures) _ (c .before .before .before .before .before .before .before .before .before .before .pre .0) (c .before .before .before .before .if1 .taken) (c .before .before .store .ensures)
+returns c = held-last _ _ _ _ _ _ _ (c .before .before .before .before .before .before .before .wide .ensures) (c .before .before .before .before .before .wide2 .ensures) _ (c .before .before .before .before .before .before .before .before .before .before .pre .0) (c .before .before .before .before .if1 .taken) (c .before .before .set-time .ensures)
 
-due-requires : tie.Need-due-requires
-due-requires c κs = search needs
+time-at-requires : tie.Need-time-at-requires
+time-at-requires c κs = omega (arith, c .before .before .wide2 .ensures, c .before .if1 .left, c .before .before .before .before .before .before .before .pre .0 .inside (c .before .before .before .before .wide .result), c .before .before .before .before .before .before .before .pre .1 .0 .full)
 
-store-requires-2 : tie.Need-store-requires-2
-store-requires-2 c κs = search needs
+set-time-requires-2 : tie.Need-set-time-requires-2
+set-time-requires-2 c κs = omega (arith, c .before .before .before .before .before .before .before .wide .ensures, c .before .before .before .before .before .before .before .before .before .before .pre .1 .0 .timed)
 
 same-length-2 : tie.Need-same-length-2
 same-length-2 c = search needs
 
 returns-2 : tie.Need-returns-2
-returns-2 c = held-soon _ _ _ _ _ _ _ (c .before .before .before .before .before .before .before .before .before .before .wide .ensures) (c .before .before .before .before .before .before .before .before .wide2 .ensures) _ _ (c .before .before .before .before .before .before .before .before .before .before .before .before .before .pre .0) (c .before .before .before .before .before .before .before .if1 .left) (c .before .before .before .before .before .due .ensures) (c .before .before .before .before .if2 .taken) (c .before .before .store2 .ensures)
+returns-2 c = held-soon _ _ _ _ _ _ _ (c .before .before .before .before .before .before .before .before .before .before .wide .ensures) (c .before .before .before .before .before .before .before .before .wide2 .ensures) _ _ (c .before .before .before .before .before .before .before .before .before .before .before .before .before .pre .0) (c .before .before .before .before .before .before .before .if1 .left) (c .before .before .before .before .before .time-at .ensures) (c .before .before .before .before .if2 .taken) (c .before .before .set-time2 .ensures)
 
 add-move-to : tie.Need-add-move-to
 add-move-to c = search needs
@@ -52,7 +53,7 @@ same-length-4 : tie.Need-same-length-4
 same-length-4 c = search needs
 
 returns-3 : tie.Need-returns-3
-returns-3 c = held-moved _ _ _ _ _ _ _ (c .before .before .before .before .before .before .before .before .before .before .before .before .before .wide .ensures) (c .before .before .before .before .before .before .before .before .before .before .before .wide2 .ensures) _ _ _ (c .before .before .before .before .before .before .before .before .before .before .if1 .left) (c .before .before .before .before .before .before .before .before .due .ensures) (c .before .before .before .before .before .before .before .if2 .left) (c .before .before .before .before .move-to .ensures)
+returns-3 c = held-moved _ _ _ _ _ _ _ (c .before .before .before .before .before .before .before .before .before .before .before .before .before .wide .ensures) (c .before .before .before .before .before .before .before .before .before .before .before .wide2 .ensures) _ _ _ (c .before .before .before .before .before .before .before .before .before .before .if1 .left) (c .before .before .before .before .before .before .before .before .time-at .ensures) (c .before .before .before .before .before .before .before .if2 .left) (c .before .before .before .before .move-to .ensures)
 
 pub hold-at-spec : {M : Type 1} → statement M
 hold-at-spec =
@@ -63,11 +64,11 @@ hold-at-spec =
     slice-read-wide
     wide-requires-2
     sub-if1
-    store-requires
+    set-time-requires
     same-length
     returns
-    due-requires
-    store-requires-2
+    time-at-requires
+    set-time-requires-2
     same-length-2
     returns-2
     add-move-to

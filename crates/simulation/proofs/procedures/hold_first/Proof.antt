@@ -16,7 +16,7 @@ add-hold-at : tie.Need-add-hold-at
 add-hold-at c = omega (arith, c .before .before .before .before .before .pre .1 .1 .within, c .before .before .if1 .left)
 
 hold-at-requires : tie.Need-hold-at-requires
-hold-at-requires c κs = (c .before .before .before .before .before .pre .0, (first-at _ _ _ (c .before .before .before .before .before .pre .1 .0) (c .before .before .before .before .before .pre .1 .1 .place), omega (arith, c .before .before .before .before .before .pre .1 .1 .within, c .before .before .if1 .left)))
+hold-at-requires c κs = (c .before .before .before .before .before .pre .0, (first-at _ _ _ _ (c .before .before .before .before .before .pre .1 .0) (c .before .before .before .before .before .pre .1 .1 .place), omega (arith, c .before .before .before .before .before .pre .1 .1 .within, c .before .before .if1 .left)))
 
 same-length : tie.Need-same-length
 same-length c = search needs

@@ -10,19 +10,19 @@ add-first : tie.Need-add-first
 add-first c = search needs
 
 first-requires : tie.Need-first-requires
-first-requires c κs = rw (c .before .wide .ensures) (c .before .before .before .before .before .pre .sound)
+first-requires c κs = rw (c .before .wide .ensures) (c .before .before .before .before .before .pre .judged .sound)
 
 same-length : tie.Need-same-length
 same-length c = search needs
 
 returns : tie.Need-returns
-returns c = finish-main _ _ _ _ _ (rw (c .before .before .before .wide .ensures) at (c .before .first .ensures)) (c .before .before .before .before .before .before .before .pre .sound) (c .if1 .taken)
+returns c = finish-main _ _ _ _ _ (rw (c .before .before .before .wide .ensures) at (c .before .first .ensures)) (c .before .before .before .before .before .before .before .pre .judged .sound) (c .if1 .taken)
 
 add-finish : tie.Need-add-finish
 add-finish c = search needs
 
 finish-requires : tie.Need-finish-requires
-finish-requires c κs = rw ((c .before .before .before .before .before .before .wide .ensures)) ((c .before .before .before .before .before .before .before .before .before .before .pre .sound), (c .before .before .before .before .before .before .before .before .before .before .pre .first-led))
+finish-requires c κs = rw ((c .before .before .before .before .before .before .wide .ensures)) ((c .before .before .before .before .before .before .before .before .before .before .pre .judged .sound), (c .before .before .before .before .before .before .before .before .before .before .pre .first-led))
 
 same-length-2 : tie.Need-same-length-2
 same-length-2 c = search needs

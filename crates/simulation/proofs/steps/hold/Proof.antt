@@ -14,7 +14,7 @@ add-hold : tie.Need-add-hold
 add-hold c = search needs
 
 hold-requires : tie.Need-hold-requires
-hold-requires c κs = rw ((c .before .before .before .wide .ensures)) ((c .before .before .before .before .before .before .pre .sound), (c .before .before .before .before .before .before .pre .first-led))
+hold-requires c κs = rw ((c .before .before .before .wide .ensures)) ((c .before .before .before .before .before .before .pre .judged .sound), (c .before .before .before .before .before .before .pre .first-led))
 
 same-length : tie.Need-same-length
 same-length c = search needs

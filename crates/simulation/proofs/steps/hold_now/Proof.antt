@@ -14,7 +14,7 @@ add-hold-first : tie.Need-add-hold-first
 add-hold-first c = search needs
 
 hold-first-requires : tie.Need-hold-first-requires
-hold-first-requires c κs = rw (c .before .before .before .wide .ensures) (c .before .before .before .before .before .before .pre .0 .sound, (c .before .before .before .before .before .before .pre .0 .first-led, c .before .before .before .before .before .before .pre .1))
+hold-first-requires c κs = rw (c .before .before .before .wide .ensures) (c .before .before .before .before .before .before .pre .0 .judged .sound, (c .before .before .before .before .before .before .pre .0 .first-led, c .before .before .before .before .before .before .pre .1))
 
 same-length : tie.Need-same-length
 same-length c = search needs

@@ -10,7 +10,7 @@ add-passivate : tie.Need-add-passivate
 add-passivate c = search needs
 
 passivate-requires : tie.Need-passivate-requires
-passivate-requires c κs = rw ((c .before .before .wide .ensures)) ((c .before .before .before .before .before .pre .sound), (c .before .before .before .before .before .pre .first-led))
+passivate-requires c κs = rw ((c .before .before .wide .ensures)) ((c .before .before .before .before .before .pre .judged .sound), (c .before .before .before .before .before .pre .first-led))
 
 same-length : tie.Need-same-length
 same-length c = search needs

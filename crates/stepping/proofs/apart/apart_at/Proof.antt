@@ -1,6 +1,6 @@
 use Rattle.runs.specs.Arms.{arm-2, arm-3, arm-5, arm-7, arm-9, arm-timed}
 use Rattle.runs.specs.Tried.{left-apart}
-use Rattle.runs.specs.Performing.{judged, x-readable, y-readable, some, most}
+use Rattle.runs.specs.Performing.{judged, takeable, x-readable, y-readable, some, most}
 use mathlib.Core.Path.{sym, _∙_}
 use Rattle.sheet.specs.Sheet.{recordFrom}
 use borrow.Author.Needs.{needs}
@@ -30,7 +30,7 @@ unless-refused-requires-3 : tie.Need-unless-refused-requires-3
 unless-refused-requires-3 c κs = search needs
 
 passivate-requires : tie.Need-passivate-requires
-passivate-requires c κs = judged _ _ _ _ _ (c .before .before .before .before .before .before .before .before .before .pre .0)
+passivate-requires c κs = takeable _ _ _ _ _ (c .before .before .before .before .before .before .before .before .before .pre .0)
 
 unless-refused-requires-4 : tie.Need-unless-refused-requires-4
 unless-refused-requires-4 c κs = search needs

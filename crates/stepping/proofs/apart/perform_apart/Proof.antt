@@ -1,5 +1,5 @@
 use mathlib.Core.Path.{sym, ap, _∙_}
-use Rattle.sequencing.specs.Promise.{ready-judged}
+use Rattle.sequencing.specs.Promise.{ready-takeable}
 use Rattle.sheet.specs.declared.records.Record.{Record}
 use Rattle.runs.specs.Arms.{arm-0}
 use Rattle.runs.specs.Reads.{got-end}
@@ -12,7 +12,7 @@ use Rattle.stepping.proofs.apart.perform_apart.Statement.{statement}
 use Rattle.stepping.proofs.apart.perform_apart.Tie as tie
 
 finish-requires : tie.Need-finish-requires
-finish-requires c κs = ready-judged _ _ (c .before .before .before .before .before .before .before .before .before .pre .1 .0)
+finish-requires c κs = ready-takeable _ _ (c .before .before .before .before .before .before .before .before .before .pre .1 .0)
 
 unless-refused-requires : tie.Need-unless-refused-requires
 unless-refused-requires c κs = search needs

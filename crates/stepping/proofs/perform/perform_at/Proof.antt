@@ -1,6 +1,6 @@
 use Rattle.runs.specs.Arms.{arm-1, arm-4, arm-6, arm-8, arm-10, arm-delay, arm-12, arm-13}
 use Rattle.runs.specs.Tried.{here-1, here-4, here-6, here-8, here-10, here-delay, here-12, here-13, apart-10, apart-other, tried-not, tried-made}
-use Rattle.runs.specs.Performing.{judged, noticed, place-some, x-readable, y-readable, numbered, in-sixty-four}
+use Rattle.runs.specs.Performing.{judged, takeable, noticed, place-some, x-readable, y-readable, numbered, in-sixty-four}
 use mathlib.Core.Path.{sym, _∙_}
 use Rattle.sheet.specs.Sheet.{recordFrom}
 use borrow.Author.Needs.{needs}
@@ -12,7 +12,7 @@ operation-at-requires : tie.Need-operation-at-requires
 operation-at-requires c κs = c .before .before .before .before .before .pre .callable .inside
 
 wait-of-requires : tie.Need-wait-of-requires
-wait-of-requires c κs = (y-readable _ _ _ _ _ (c .before .before .before .before .before .before .before .before .before .before .pre .callable) _ (c .before .before .before .before .operation-at .ensures) (λ z. omega (arith, c .before .before .before .match .keys1)), judged _ _ _ _ _ (c .before .before .before .before .before .before .before .before .before .before .pre .callable))
+wait-of-requires c κs = (y-readable _ _ _ _ _ (c .before .before .before .before .before .before .before .before .before .before .pre .callable) _ (c .before .before .before .before .operation-at .ensures) (λ z. omega (arith, c .before .before .before .match .keys1)), takeable _ _ _ _ _ (c .before .before .before .before .before .before .before .before .before .before .pre .callable))
 
 unless-refused-requires : tie.Need-unless-refused-requires
 unless-refused-requires c κs = search needs
@@ -39,7 +39,7 @@ unless-refused-requires-4 : tie.Need-unless-refused-requires-4
 unless-refused-requires-4 c κs = search needs
 
 hold-of-requires : tie.Need-hold-of-requires
-hold-of-requires c κs = (c .before .before .before .before .before .before .before .before .before .pre .callable .inside, (judged _ _ _ _ _ (c .before .before .before .before .before .before .before .before .before .pre .callable), noticed _ _ _ _ _ _ _ (c .before .before .before .before .before .before .before .before .before .pre)))
+hold-of-requires c κs = (c .before .before .before .before .before .before .before .before .before .pre .callable .inside, (takeable _ _ _ _ _ (c .before .before .before .before .before .before .before .before .before .pre .callable), noticed _ _ _ _ _ _ _ (c .before .before .before .before .before .before .before .before .before .pre)))
 
 unless-refused-requires-5 : tie.Need-unless-refused-requires-5
 unless-refused-requires-5 c κs = search needs
