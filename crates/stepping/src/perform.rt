@@ -75,12 +75,10 @@ fn perform_at(
 {
     let op = operation_at(sheet, i);
     match op {
-        8 => unless_refused(wait_of(c, sheet, i, links, axis, times, f), Effect::Moves),
-        13 => unless_refused(accum_of(sheet, i, accums, time), Effect::Stays),
-        12 => branch(c, sheet, i, links, f),
         1 => unless_refused(out_of(c, sheet, i, links, f), Effect::Stays),
         4 => unless_refused(into_of(c, sheet, i, links, f), Effect::Stays),
         6 => unless_refused(hold_of(c, sheet, i, axis, times, f, time), Effect::Moves),
+        8 => unless_refused(wait_of(c, sheet, i, links, axis, times, f), Effect::Moves),
         10 => {
             let k = clause_at(sheet, i);
             if k == 2 {
@@ -97,6 +95,8 @@ fn perform_at(
             }
             Effect::Apart
         }
+        12 => branch(c, sheet, i, links, f),
+        13 => unless_refused(accum_of(sheet, i, accums, time), Effect::Stays),
         _ => Effect::Apart,
     }
 }
