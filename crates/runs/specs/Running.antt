@@ -1,11 +1,12 @@
 -- The loop's variables: current's place, time and record beside the tables, and what a step makes of them.
 use Prim.Native.Nat.{ℕ, _+_, _*_, _<_}
-use mathlib.Core.Path.{_≡_, refl, sym, ap, _∙_}
+use mathlib.Core.Path.{_≡_, refl, sym, ap, subst, _∙_}
 use mathlib.Core.Logic.{_≢_}
 use mathlib.Core.Bool.{Bool, true, false, _&&_}
 use mathlib.Core.List.{List}
 use lib.Dec.{eqb}
-use lib.ListN.{length, getD}
+use lib.ListN.{length, getD, set}
+use lib.Seq.{set-getD}
 use Rattle.counts.specs.declared.Counts.{Counts}
 use Rattle.counts.specs.declared.Refusal.{Refusal}
 use Rattle.model.specs.Ready.{Ready}
@@ -35,6 +36,20 @@ here-at c u f time r e et er =
       time-is = et ∙ ap (λ (j : ℕ). getD (u .model .times) j 0) e;
       record-is = er ∙ ap (λ (j : ℕ). getD (u .positions) j 0) e;
     }
+
+-- the tables with the process at place f at record r
+abbrev pub placed : RunTables → ℕ → ℕ → RunTables
+placed u f r = record { model = u .model; positions = set (u .positions) f r; words = u .words }
+
+-- a position that the table has
+pub as-placed : (u : RunTables) (f r : ℕ) → r ≡ getD (u .positions) f 0 → u ≡ placed u f r
+as-placed u f r e =
+    ap (λ (l : List ℕ). record { model = u .model; positions = l; words = u .words })
+    (sym (ap (set (u .positions) f) e ∙ set-getD (u .positions) f 0))
+
+pub here-placed : (c : Counts) (u : RunTables) (f time r : ℕ) → f ≡ placeNow c (u .model .axis) → time ≡ getD (u .model .times) f 0 → r ≡ getD (u .positions) f 0
+    → Here c (placed u f r) f time r
+here-placed c u f time r ef et er = subst (λ (v : RunTables). Here c v f time r) (as-placed u f r er) (here-at c u f time r ef et er)
 
 module _ (c : Counts) (bytes : List ℕ) (room n : ℕ) (whole : RanOn) (u₀ : RunTables) (tr₀ : List ℕ) (u : RunTables) (tr : List ℕ) (t : Turning c bytes room n whole u₀ tr₀ u tr)
     (f time r : ℕ) (at : Here c u f time r) where

@@ -8,7 +8,7 @@ use native.Mathlib.Omega.{arith}
 use lib.Dec.{eqb}
 use lib.IntN.{ℤ}
 use lib.ListN.{length, getD, set, length-set}
-use lib.Seq.{set-getD, set-set}
+use lib.Seq.{set-set}
 use borrow.Author.Tests.{ne-eqb}
 use Rattle.rings.specs.Lists.{clash}
 use Rattle.counts.specs.declared.Counts.{Counts}
@@ -31,11 +31,7 @@ use Rattle.runs.specs.Reads.{got-end}
 use Rattle.runs.specs.Standing.{Standing, place-in, positions-length, number-in}
 use Rattle.runs.specs.StepIs.{Went, stayed}
 use Rattle.runs.specs.Turning.{Turning, turning-start, line-fits, same-lengths}
-use Rattle.runs.specs.Running.{Here, here-at, callable, ends, turned-down, goes-on, moved-on, stays-here}
-
--- the tables with the process at place f at record r
-abbrev pub placed : RunTables → ℕ → ℕ → RunTables
-placed u f r = record { model = u .model; positions = set (u .positions) f r; words = u .words }
+use Rattle.runs.specs.Running.{Here, placed, as-placed, here-placed, callable, ends, turned-down, goes-on, moved-on, stays-here}
 
 pub record Stretching (c : Counts) (bytes : List ℕ) (n₀ : ℕ) (whole : RanOn) (u₀ : RunTables) (tr₀ : List ℕ) (end at f time r : ℕ) (u : RunTables) (tr : List ℕ) : Type 0 where
   pub turning : Turning c bytes (length tr₀ / 16) (at / 16) whole u₀ tr₀ (placed u f r) tr
@@ -43,16 +39,6 @@ pub record Stretching (c : Counts) (bytes : List ℕ) (n₀ : ℕ) (whole : RanO
   pub begun : 16 * n₀ ≤ at
   pub even : at ≡ 16 * (at / 16)
   pub end-is : end ≡ 16 * (length tr₀ / 16)
-
--- a position that the table has
-as-placed : (u : RunTables) (f r : ℕ) → r ≡ getD (u .positions) f 0 → u ≡ placed u f r
-as-placed u f r e =
-    ap (λ (l : List ℕ). record { model = u .model; positions = l; words = u .words })
-    (sym (ap (set (u .positions) f) e ∙ set-getD (u .positions) f 0))
-
-here-placed : (c : Counts) (u : RunTables) (f time r : ℕ) → f ≡ placeNow c (u .model .axis) → time ≡ getD (u .model .times) f 0 → r ≡ getD (u .positions) f 0
-    → Here c (placed u f r) f time r
-here-placed c u f time r ef et er = subst (λ (v : RunTables). Here c v f time r) (as-placed u f r er) (here-at c u f time r ef et er)
 
 pub stretching-start : (c : Counts) (bytes : List ℕ) (n : ℕ) (u : RunTables) (tr : List ℕ) (f time r : ℕ) → Standing c bytes u → length tr ≤ 65536 → n ≤ length tr / 16
     → f ≡ placeNow c (u .model .axis) → time ≡ getD (u .model .times) f 0 → r ≡ getD (u .positions) f 0

@@ -2,4 +2,4 @@
 pub mod Chained
 pub mod Seeks
 pub mod Arms
-pub mod Soon
+pub mod ByFirst

@@ -12,13 +12,12 @@ use counts::TIME_LIMIT;
 use model::answer::Answer;
 use ring::wide;
 ghost use mathlib.Core.Path.{_≡_};
-ghost use mathlib.Core.Bool.{false};
 ghost use Prim.Native.Nat.{_+_, _<_, _≤_};
 ghost use Rattle.rings.specs.Table.{Sound};
 ghost use Rattle.counts.specs.Counts.{limit};
 ghost use Rattle.sequencing.specs.Procedures.{placeFor, scheduled, activated};
 ghost use Rattle.sequencing.specs.Plain.{above};
-ghost use Rattle.sequencing.specs.Promise.{sqs, Left, Answers, Place, Vain, Beside, Due, Noticed};
+ghost use Rattle.sequencing.specs.Promise.{sqs, Left, Answers, Place, Vain, Beside, Due};
 
 // Whether ACTIVATE has no effect.
 pub(crate) fn is_vain(
@@ -177,56 +176,6 @@ pub(crate) fn activate(
         return cancel(axis, m, times, x);
     }
     schedule(axis, m, times, k, x, y, time, u);
-    Answer::Done
-}
-
-// Activate with no clause, where the first notice's place and time are known: X's notice is the first now.
-pub(crate) fn activate_now(
-    axis: &mut [u32],
-    m: usize,
-    times: &mut [u64],
-    marks: &[u8],
-    f: u32,
-    time: u64,
-    x: u32,
-) -> Answer
-    requires { ⌜ Sound m (now axis) ⌝ }
-    requires { ⌜ x < m ⌝ }
-    requires { ⌜ m ≤ 1026 ⌝ }
-    requires { ⌜ Noticed m f time (now axis) (now times) ⌝ }
-    ensures { λ r. ⌜ Answers m (activated m false 0 x 0 0 (now (marks .entry)) (sqs (now (axis .entry)) (now (times .entry)))) (now (axis .exit)) (now (times .exit)) r ⌝ }
-{
-    if is_vain(axis, m, marks, false, 0, x, 0) {
-        return Answer::Done;
-    }
-    schedule(axis, m, times, 0, x, 0, time, time);
-    Answer::Done
-}
-
-// Activate after a delay, with the same known.
-pub(crate) fn activate_after(
-    axis: &mut [u32],
-    m: usize,
-    times: &mut [u64],
-    marks: &[u8],
-    f: u32,
-    time: u64,
-    x: u32,
-    d: u64,
-) -> Answer
-    requires { ⌜ Sound m (now axis) ⌝ }
-    requires { ⌜ x < m ⌝ }
-    requires { ⌜ m ≤ 1026 ⌝ }
-    requires { ⌜ Noticed m f time (now axis) (now times) ⌝ }
-    ensures { λ r. ⌜ Answers m (activated m false 2 x 0 d (now (marks .entry)) (sqs (now (axis .entry)) (now (times .entry)))) (now (axis .exit)) (now (times .exit)) r ⌝ }
-{
-    if is_vain(axis, m, marks, false, 2, x, 0) {
-        return Answer::Done;
-    }
-    if d > TIME_LIMIT - time {
-        return Answer::Refused(Refusal::TimeLimit);
-    }
-    schedule(axis, m, times, 2, x, 0, time, time + d);
     Answer::Done
 }
 

@@ -2,4 +2,5 @@
 pub mod activation;
 pub mod axis;
 pub mod procedures;
+pub mod soon;
 pub mod steps;

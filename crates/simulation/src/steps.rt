@@ -12,9 +12,7 @@ use ring::wide;
 use simset::procedures::precede;
 use simset::steps::head_or_none;
 ghost use mathlib.Core.Path.{_≡_};
-ghost use mathlib.Core.Bool.{false};
 ghost use Prim.Native.Nat.{_+_, _-_, _<_, _≤_};
-ghost use lib.IntN.{pos};
 ghost use Rattle.rings.specs.Table.{Sound};
 ghost use Rattle.counts.specs.Counts.{isProcess, total};
 ghost use Rattle.sets.specs.Calls.{orNone};
@@ -134,54 +132,6 @@ pub fn activate(
     let k = narrow(clause);
     let d = above_zero(t);
     activation::activate(axis, p + 2, times, marks, again, k, q, s, d)
-}
-
-// Activate with no clause, where current's place and time are known.
-pub fn activate_now(
-    c: Counts,
-    axis: &mut [u32],
-    times: &mut [u64],
-    marks: &[u8],
-    f: u32,
-    time: u64,
-    x: u32,
-) -> Answer
-    requires { ⌜ Judged c (now axis) ⌝ }
-    requires { ⌜ Noticed (half c) f time (now axis) (now times) ⌝ }
-    ensures { λ r. ⌜ Answers (half c) (timedStep c false 0 x 0 (pos 0) (now (marks .entry)) (sqs (now (axis .entry)) (now (times .entry)))) (now (axis .exit)) (now (times .exit)) r ⌝ }
-{
-    let ok = process_or_none(c, x);
-    if !ok {
-        return Answer::Refused(Refusal::Operand);
-    }
-    let p = wide(c.processes);
-    let q = c.place_of(x);
-    activation::activate_now(axis, p + 2, times, marks, f, time, q)
-}
-
-// Activate after a delay, with the same known.
-pub fn activate_after(
-    c: Counts,
-    axis: &mut [u32],
-    times: &mut [u64],
-    marks: &[u8],
-    f: u32,
-    time: u64,
-    x: u32,
-    t: i64,
-) -> Answer
-    requires { ⌜ Judged c (now axis) ⌝ }
-    requires { ⌜ Noticed (half c) f time (now axis) (now times) ⌝ }
-    ensures { λ r. ⌜ Answers (half c) (timedStep c false 2 x 0 t (now (marks .entry)) (sqs (now (axis .entry)) (now (times .entry)))) (now (axis .exit)) (now (times .exit)) r ⌝ }
-{
-    let ok = process_or_none(c, x);
-    if !ok {
-        return Answer::Refused(Refusal::Operand);
-    }
-    let p = wide(c.processes);
-    let q = c.place_of(x);
-    let d = above_zero(t);
-    activation::activate_after(axis, p + 2, times, marks, f, time, q, d)
 }
 
 pub fn finish(c: Counts, axis: &mut [u32], times: &mut [u64], marks: &mut [u8]) -> Answer

@@ -1,9 +1,9 @@
 use Rattle.simulation.proofs.Chained.{vain-0}
-use Rattle.simulation.proofs.Soon.{active-now}
+use Rattle.simulation.proofs.ByFirst.{active-now}
 use borrow.Author.Needs.{needs}
 use native.Mathlib.Omega.{arith}
-use Rattle.simulation.proofs.activation.activate_now.Statement.{statement}
-use Rattle.simulation.proofs.activation.activate_now.Tie as tie
+use Rattle.simulation.proofs.soon.direct.Statement.{statement}
+use Rattle.simulation.proofs.soon.direct.Tie as tie
 
 is-vain-requires : tie.Need-is-vain-requires
 is-vain-requires c κs = search needs
@@ -26,8 +26,8 @@ same-length-3 c = search needs
 returns-2 : tie.Need-returns-2
 returns-2 c = active-now _ _ _ _ _ _ _ _ (c .before .before .before .before .before .before .before .before .is-vain .ensures) (c .before .before .before .before .before .before .before .if1 .left) (c .before .before .before .before .before .before .before .before .before .before .before .before .before .pre .1 .1 .1) _ _ (c .before .before .before .before .schedule .ensures)
 
-pub activate-now-spec : {M : Type 1} → statement M
-activate-now-spec =
+pub direct-spec : {M : Type 1} → statement M
+direct-spec =
     tie.close
     (tie.spec
     is-vain-requires

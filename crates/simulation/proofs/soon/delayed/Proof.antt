@@ -1,10 +1,10 @@
 use mathlib.Core.Path.{refl}
 use Rattle.simulation.proofs.Chained.{vain-0}
-use Rattle.simulation.proofs.Soon.{late-5, late-0}
+use Rattle.simulation.proofs.ByFirst.{late-5, late-0}
 use borrow.Author.Needs.{needs}
 use native.Mathlib.Omega.{arith}
-use Rattle.simulation.proofs.activation.activate_after.Statement.{statement}
-use Rattle.simulation.proofs.activation.activate_after.Tie as tie
+use Rattle.simulation.proofs.soon.delayed.Statement.{statement}
+use Rattle.simulation.proofs.soon.delayed.Tie as tie
 
 is-vain-requires : tie.Need-is-vain-requires
 is-vain-requires c κs = search needs
@@ -39,8 +39,8 @@ same-length-4 c = search needs
 returns-3 : tie.Need-returns-3
 returns-3 c = late-0 _ _ _ _ _ _ _ _ _ (c .before .before .before .before .before .before .before .before .before .is-vain .ensures) (c .before .before .before .before .before .before .before .before .if1 .left) (c .before .before .before .before .before .before .before .before .before .before .before .before .before .before .pre .1 .1 .1) (c .before .before .before .before .before .before .before .if2 .left) _ refl _ _ (c .before .before .before .before .schedule .ensures)
 
-pub activate-after-spec : {M : Type 1} → statement M
-activate-after-spec =
+pub delayed-spec : {M : Type 1} → statement M
+delayed-spec =
     tie.close
     (tie.spec
     is-vain-requires

@@ -1,0 +1,53 @@
+use Rattle.sequencing.specs.Sign.{above-passed}
+use Rattle.sequencing.specs.StepPromise.{process-in}
+use Rattle.sets.specs.Promise.{passed}
+use Rattle.simulation.proofs.ByFirst.{soon-3, soon-0}
+use borrow.Author.Needs.{needs}
+use native.Mathlib.Omega.{arith}
+use Rattle.simulation.proofs.soon.activate_after.Statement.{statement}
+use Rattle.simulation.proofs.soon.activate_after.Tie as tie
+
+process-or-none-requires : tie.Need-process-or-none-requires
+process-or-none-requires c κs = search needs
+
+returns : tie.Need-returns
+returns c = soon-3 _ _ _ _ _ _ (c .before .process-or-none .ensures) 2 (omega arith) _ (c .before .before .before .before .before .pre .0 .sound) (c .if1 .taken)
+
+wide-requires : tie.Need-wide-requires
+wide-requires c κs = search needs
+
+place-of-requires : tie.Need-place-of-requires
+place-of-requires c κs = search needs
+
+above-zero-requires : tie.Need-above-zero-requires
+above-zero-requires c κs = search needs
+
+add-delayed : tie.Need-add-delayed
+add-delayed c = search needs
+
+delayed-requires : tie.Need-delayed-requires
+delayed-requires c κs = rw (c .before .before .before .before .wide .ensures) (c .before .before .before .before .before .before .before .before .before .before .pre .0 .sound, (omega (arith, c .before .before .before .place-of .ensures, process-in (c .before .before .before .before .before .before .before .before .before .before .args .c) (c .before .before .before .before .before .before .before .before .before .before .args .x) (passed _ _ (c .before .before .before .before .before .before .process-or-none .ensures) (c .before .before .before .before .before .if1 .left))), (omega (arith, c .before .before .before .before .before .before .before .before .before .before .pre .0 .allowed .processes-in), c .before .before .before .before .before .before .before .before .before .before .pre .1)))
+
+same-length : tie.Need-same-length
+same-length c = search needs
+
+same-length-2 : tie.Need-same-length-2
+same-length-2 c = search needs
+
+returns-2 : tie.Need-returns-2
+returns-2 c = soon-0 _ _ _ _ _ _ (c .before .before .before .before .before .before .before .before .before .before .before .process-or-none .ensures) 2 (omega arith) _ (c .before .before .before .before .before .before .before .before .before .before .if1 .left) _ _ _ (rw (c .before .before .before .before .before .before .before .before .before .wide .ensures, c .before .before .before .before .before .before .before .before .place-of .ensures, above-passed (c .before .before .before .before .before .before .before .before .before .before .before .before .before .before .before .args .t) (c .before .before .before .before .before .before .before .before .before .before .before .before .before .before .before .fits .t) _ (c .before .before .before .before .before .before .before .above-zero .ensures)) at (c .before .before .before .before .delayed .ensures))
+
+pub activate-after-spec : {M : Type 1} → statement M
+activate-after-spec =
+    tie.close
+    (tie.spec
+    process-or-none-requires
+    returns
+    wide-requires
+    place-of-requires
+    above-zero-requires
+    add-delayed
+    delayed-requires
+    same-length
+    same-length-2
+    returns-2)
