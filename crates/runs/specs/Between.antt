@@ -9,7 +9,7 @@ use lib.Dec.{eqb}
 use lib.IntN.{ℤ}
 use lib.ListN.{length, getD}
 use borrow.Author.Tests.{ne-eqb}
-use Rattle.rings.specs.Lists.{if_then_else_, clash}
+use Rattle.rings.specs.Lists.{clash}
 use Rattle.counts.specs.declared.Counts.{Counts}
 use Rattle.counts.specs.declared.Refusal.{Refusal}
 use Rattle.model.specs.declared.answer.Answer.{Answer}
@@ -29,7 +29,7 @@ use Rattle.runs.specs.declared.Pause.the-variants.{Full, Apart as Due, R
 use Rattle.runs.specs.declared.Stretch.{Stretch}
 use Rattle.runs.specs.Run.{RunTables, On, recordGot, recordAtNow, resolved, callDue, endsNow, RanOn, stoppedOn, turnsOn}
 use Rattle.runs.specs.Performed.{callEffect, stays-or-moves, effectOf, unlessRefused, Performed, performed, verdictBy, turnedBy}
-use Rattle.runs.specs.Tried.{apart, here-12}
+use Rattle.runs.specs.Tried.{apart, here}
 use Rattle.runs.specs.Needs.{Callable}
 use Rattle.runs.specs.Standing.{its-call}
 use Rattle.runs.specs.StepIs.{Went}
@@ -50,7 +50,7 @@ module _ (c : Counts) (q : Record) (f : ℕ) (t : Tables) (w : List ℤ) (a : ap
   -- only 12 goes elsewhere than to the record's next
   plain : (k : Call) (none : Bool) → callEffect k ≡ effectOf k q none
   unfolding effectOf
-  plain k none = rw (ne-eqb (q .operation) 12 (λ e. let z : true ≡ false = sym a ∙ here-12 q e in clash (sym z)))
+  plain k none = rw (ne-eqb (q .operation) 12 (λ e. let z : true ≡ false = sym a ∙ here q 12 refl refl e in clash (sym z)))
 
   pub goes-next : (p : Performed) → p ≡ performed c q f t w → Fine ≡ verdictBy (p .effect) → (next : ℕ) → next ≡ q .next → turnedBy (p .effect) (q .next) ≡ On next
   unfolding performed

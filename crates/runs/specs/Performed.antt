@@ -77,7 +77,7 @@ performed c q f t w =
     let a = carriedOut c (callDue d) t w in
     record { tables = a .tables; words = a .words; effect = unlessRefused (a .answer) (effectOf (callDue d) q (emptyOf (d .x) (t .links))) }
 
--- whether it was made
+-- whether it was refused
 abbrev pub verdictBy : Effect → Verdict
 verdictBy Stays = Fine
 verdictBy (Jumps y) = Fine

@@ -9,7 +9,6 @@ use lib.ListN.{length, getD, set}
 use lib.Seq.{set-getD}
 use Rattle.counts.specs.declared.Counts.{Counts}
 use Rattle.counts.specs.declared.Refusal.{Refusal}
-use Rattle.model.specs.Ready.{Ready}
 use Rattle.sheet.specs.Sheet.{recordOffset}
 use Rattle.machine.specs.declared.End.the-variants.{Refused}
 use Rattle.machine.specs.OnTables.{placeNow, timeAt}
@@ -18,7 +17,7 @@ use Rattle.runs.specs.Run.{RunTables, On, Off, Stepped, recordGot, recor
 use Rattle.runs.specs.Performed.{Performed, performed, turnedBy}
 use Rattle.runs.specs.Needs.{Performable}
 use Rattle.runs.specs.Reads.{ends-at}
-use Rattle.runs.specs.Standing.{ready, its-step}
+use Rattle.runs.specs.Standing.{its-step}
 use Rattle.runs.specs.StepIs.{Went, stayed, step-off, step-on, step-stays}
 use Rattle.runs.specs.Turning.{Turning, turning-on, turning-at, step-refused}
 
@@ -53,9 +52,6 @@ here-placed c u f time r ef et er = subst (λ (v : RunTables). Here c v f time r
 
 module _ (c : Counts) (bytes : List ℕ) (room n : ℕ) (whole : RanOn) (u₀ : RunTables) (tr₀ : List ℕ) (u : RunTables) (tr : List ℕ) (t : Turning c bytes room n whole u₀ tr₀ u tr)
     (f time r : ℕ) (at : Here c u f time r) where
-  pub its-ready : Ready c (u .model)
-  its-ready = ready c bytes u (t .stands)
-
   pub callable : r ≢ 0 → Performable c bytes (recordOffset (c .processes) r) f time (u .model) (u .words)
   callable = its-step c bytes u (t .stands) f (at .place-is) r (at .record-is) time (at .time-is)
 

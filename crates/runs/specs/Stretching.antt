@@ -2,7 +2,7 @@
 use Prim.Native.Nat.{ℕ, _+_, _*_, _-_, _/_, _≤_, _<_}
 use mathlib.Core.Path.{_≡_, refl, sym, ap, subst, _∙_}
 use mathlib.Core.Logic.{_≢_}
-use mathlib.Core.Bool.{Bool, true, false, _&&_}
+use mathlib.Core.Bool.{true, false, _&&_}
 use mathlib.Core.List.{List}
 use native.Mathlib.Omega.{arith}
 use lib.Dec.{eqb}
@@ -22,7 +22,7 @@ use Rattle.machine.specs.declared.End.the-variants.{Refused as Ended}
 use Rattle.machine.specs.OnTables.{placeNow}
 use Rattle.runs.specs.declared.Effect.the-variants.{Refused}
 use Rattle.runs.specs.declared.Pause.the-variants.{Full, Apart, Refused as Stopped}
-use Rattle.runs.specs.Run.{RunTables, On, recordGot, recordAtNow, endsNow, RanOn, stoppedOn, turnsOn}
+use Rattle.runs.specs.Run.{RunTables, On, recordGot, endsNow, RanOn, stoppedOn, turnsOn}
 use Rattle.runs.specs.Performed.{Performed, performed, turnedBy}
 use Rattle.runs.specs.Tried.{apart, tried, isApart, apart-0, made-of, not-apart, left-of}
 use Rattle.runs.specs.Paused.{Paused}

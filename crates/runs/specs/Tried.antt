@@ -5,10 +5,9 @@ use mathlib.Core.Path.{_≡_, refl, sym, ap, _∙_}
 use mathlib.Core.Logic.{_≢_}
 use mathlib.Core.Bool.{Bool, true, false, not, _&&_, _||_}
 use mathlib.Core.List.{List}
-use native.Mathlib.Omega.{arith}
 use lib.Dec.{eqb}
 use lib.IntN.{ℤ}
-use borrow.Author.Tests.{eq-eqb, ne-eqb}
+use borrow.Author.Tests.{ne-eqb}
 use Rattle.rings.specs.Lists.{if_then_else_, test, clash}
 use Rattle.counts.specs.declared.Counts.{Counts}
 use Rattle.model.specs.declared.answer.Answer.{Answer}
@@ -24,12 +23,16 @@ use Rattle.runs.specs.Run.{resolved, callDue}
 use Rattle.runs.specs.Which.{the-rest}
 use Rattle.runs.specs.Performed.{callEffect, stays-or-moves, effectOf, unlessRefused, Performed, performed}
 
--- out, into, hold, wait, if-empty, accum, and activate with no clause or after a delay are made in a stretch
+-- out, into, hold, wait, if-empty and accum are made in a stretch,
+abbrev pub madeHere : ℕ → Bool
+madeHere o = eqb o 1 || (eqb o 4 || (eqb o 6 || (eqb o 8 || (eqb o 12 || eqb o 13))))
+
+-- and activate with no clause or after a delay
+abbrev pub madeSoon : ℕ → Bool
+madeSoon k = eqb k 0 || eqb k 2
+
 unfoldable pub apart : Record → Bool
-apart q =
-    let o = q .operation in
-    if eqb o 10 then not (eqb (q .clause) 0 || eqb (q .clause) 2)
-    else not (eqb o 1 || (eqb o 4 || (eqb o 6 || (eqb o 8 || (eqb o 12 || eqb o 13)))))
+apart q = if eqb (q .operation) 10 then not (madeSoon (q .clause)) else not (madeHere (q .operation))
 
 -- a call that is made apart is not made, and nothing has changed
 unfoldable pub tried : Counts → Record → ℕ → Tables → List ℤ → Performed
@@ -38,37 +41,13 @@ tried c q f t w = if apart q then record { tables = t; words = w; effect = Apart
 -- ---- by the operation
 
 module _ (q : Record) where
-  pub here-1 : q .operation ≡ 1 → apart q ≡ false
+  pub here : (n : ℕ) → eqb n 10 ≡ false → madeHere n ≡ true → q .operation ≡ n → apart q ≡ false
   unfolding apart
-  here-1 e = rw e
+  here n t m e = rw (e, t, m)
 
-  pub here-4 : q .operation ≡ 4 → apart q ≡ false
+  pub here-soon : (k : ℕ) → madeSoon k ≡ true → q .operation ≡ 10 → q .clause ≡ k → apart q ≡ false
   unfolding apart
-  here-4 e = rw e
-
-  pub here-6 : q .operation ≡ 6 → apart q ≡ false
-  unfolding apart
-  here-6 e = rw e
-
-  pub here-8 : q .operation ≡ 8 → apart q ≡ false
-  unfolding apart
-  here-8 e = rw e
-
-  pub here-10 : q .operation ≡ 10 → q .clause ≡ 0 → apart q ≡ false
-  unfolding apart
-  here-10 e k = rw (e, k)
-
-  pub here-delay : q .operation ≡ 10 → q .clause ≡ 2 → apart q ≡ false
-  unfolding apart
-  here-delay e k = rw (e, k)
-
-  pub here-12 : q .operation ≡ 12 → apart q ≡ false
-  unfolding apart
-  here-12 e = rw e
-
-  pub here-13 : q .operation ≡ 13 → apart q ≡ false
-  unfolding apart
-  here-13 e = rw e
+  here-soon k m e z = rw (e, z, m)
 
   pub apart-0 : q .operation ≡ 0 → apart q ≡ true
   unfolding apart
@@ -86,7 +65,7 @@ module _ (q : Record) where
   -- past the arms of those that are made apart, 10 and 11 are left
   pub left-apart : (o : ℕ) → o ≡ q .operation → apart q ≡ true → 1 ≤ o → o ≤ 13 → o ≢ 2 → o ≢ 3 → o ≢ 5 → o ≢ 7 → o ≢ 9 → (10 ≤ o) × (o ≤ 11)
   left-apart o is a lo hi n2 n3 n5 n7 n9 =
-      the-rest o lo hi (no 1 here-1) n2 n3 (no 4 here-4) n5 (no 6 here-6) n7 (no 8 here-8) n9 (no 12 here-12) (no 13 here-13)
+      the-rest o lo hi (no 1 (here 1 refl refl)) n2 n3 (no 4 (here 4 refl refl)) n5 (no 6 (here 6 refl refl)) n7 (no 8 (here 8 refl refl)) n9 (no 12 (here 12 refl refl)) (no 13 (here 13 refl refl))
     where
       no : (k : ℕ) → (q .operation ≡ k → apart q ≡ false) → o ≢ k
       no k h e = let z : true ≡ false = sym a ∙ h (sym is ∙ e) in clash (sym z)
@@ -131,14 +110,14 @@ module _ (c : Counts) (q : Record) (f : ℕ) (t : Tables) (w : List ℤ) where
     told : isApart (o .effect) ≡ isApart (tried c q f t w .effect)
     told = ap (λ (p : Performed). isApart (p .effect)) is
 
-    -- it was made here
-    pub made-of : isApart (o .effect) ≡ false → o ≡ performed c q f t w
-    unfolding tried
-    made-of e = test (apart q) (λ a. let z : true ≡ false = sym (rw a at told) ∙ e in clash (sym z)) (λ a. rw a at is)
-
     pub not-apart : isApart (o .effect) ≡ false → apart q ≡ false
     unfolding tried
     not-apart e = test (apart q) (λ a. let z : true ≡ false = sym (rw a at told) ∙ e in clash (sym z)) (λ a. a)
+
+    -- it was made here
+    pub made-of : isApart (o .effect) ≡ false → o ≡ performed c q f t w
+    unfolding tried
+    made-of e = rw (not-apart e) at is
 
     -- or it is left, with all as it was
     pub left-of : isApart (o .effect) ≡ true → (apart q ≡ true) × (o .tables ≡ t) × (o .words ≡ w)

@@ -24,7 +24,7 @@ ghost use Rattle.runs.specs.Run.{recordGot};
 ghost use Rattle.runs.specs.Performed.{verdictBy, performed};
 ghost use Rattle.runs.specs.Tried.{apart};
 
-// Whether a call was made.
+// Whether a call was refused.
 pub fn verdict_of(e: Effect) -> Verdict
     ensures { λ r. ⌜ r ≡ verdictBy e ⌝ }
 {

@@ -2,7 +2,6 @@ use mathlib.Core.Path.{ap}
 use Prim.Native.Nat.{ℕ}
 use lib.ListN.{set}
 use borrow.Author.Needs.{needs}
-use native.Mathlib.Omega.{arith}
 use Rattle.stepping.proofs.place.Statement.{statement}
 use Rattle.stepping.proofs.place.Tie as tie
 

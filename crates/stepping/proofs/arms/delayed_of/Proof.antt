@@ -2,7 +2,6 @@ use mathlib.Core.Path.{_∙_}
 use mir.Syntax.{w64}
 use mir.ValLaws.{toZ-ofZ}
 use borrow.Author.Needs.{needs}
-use native.Mathlib.Omega.{arith}
 use Rattle.stepping.proofs.arms.delayed_of.Statement.{statement}
 use Rattle.stepping.proofs.arms.delayed_of.Tie as tie
 

@@ -1,5 +1,4 @@
 use borrow.Author.Needs.{needs}
-use native.Mathlib.Omega.{arith}
 use Rattle.stepping.proofs.arms.direct_of.Statement.{statement}
 use Rattle.stepping.proofs.arms.direct_of.Tie as tie
 
