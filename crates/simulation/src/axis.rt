@@ -21,7 +21,7 @@ pub fn due(times: &[u64], i: usize) -> u64
     times[i]
 }
 
-// The time at a place of the table.
+// The same at a place of the table, with no test.
 pub(crate) fn time_at(times: &[u64], i: usize) -> u64
     requires { ⌜ i < length (now times) ⌝ }
     ensures { λ r. ⌜ Read i (now (times .entry)) r ⌝ }
@@ -39,6 +39,7 @@ pub fn mark_at(marks: &[u8], i: usize) -> u8
     marks[i]
 }
 
+// Stores a time; nothing past the table's end.
 pub(crate) fn store(times: &mut [u64], i: usize, v: u64)
     ensures { λ _. ⌜ Stored i v (now (times .entry)) (now (times .exit)) ⌝ }
 {
@@ -48,7 +49,7 @@ pub(crate) fn store(times: &mut [u64], i: usize, v: u64)
     times[i] = v;
 }
 
-// The same, at a place of the table.
+// The same at a place of the table, with no test.
 pub(crate) fn set_time(times: &mut [u64], i: usize, v: u64)
     requires { ⌜ i < length (now times) ⌝ }
     ensures { λ _. ⌜ Stored i v (now (times .entry)) (now (times .exit)) ⌝ }

@@ -16,7 +16,7 @@ ghost use Rattle.sequencing.specs.Procedures.{activated};
 ghost use Rattle.sequencing.specs.Calls.{half, timedStep};
 ghost use Rattle.sequencing.specs.Promise.{sqs, Answers, Judged, Noticed};
 
-// Activate with no clause, where the first notice's place and time are known: X's notice is the first now.
+// Activate with no clause, where the first notice's place and time are known: where it has an effect, X's notice is the first now.
 fn direct(
     axis: &mut [u32],
     m: usize,
