@@ -23,6 +23,7 @@ use Rattle.sequencing.specs.BesideLaws.{before-none, after-none}
 use Rattle.sequencing.specs.AgreeEnds.{has-in, has-none}
 use Rattle.sequencing.specs.PlacedLaws.{due-beside, others-y}
 use Rattle.sequencing.specs.StepPromise.{clause-in}
+use Rattle.sequencing.specs.Replace.{timedDropFirst, drop-first}
 use Rattle.sequencing.specs.Ties.{is-behind}
 use Rattle.sequencing.specs.Forward.{Later, hold-forward, passivate-forward, cancel-forward, finish-forward, wait-forward, timed-forward}
 use Rattle.sequencing.specs.Plain.{Result, refused, done, current, time, withNotices, withTerminated, need, above, leaving, upTo, dueFor, placed, noEffect, timedNeed}
@@ -48,7 +49,8 @@ module _ (p : Placing) (old : List Notice) where
   by-leaving l [] f = tt
   by-leaving l (k ∷ ks) f = f
 
-module _ (c : Counts) (l : Lists) (n : Notice) (ns : List Notice) (e : l .notices ≡ n ∷ ns) (o : InOrder (l .notices)) (d : Dist (whos (l .notices))) where
+module _ (c : Counts) (l : Lists) (n : Notice) (ns : List Notice) (e : l .notices ≡ n ∷ ns) (o : InOrder (l .notices)) (d : Dist (whos (l .notices)))
+    (named : In 0 (whos (l .notices)) → ⊥) where
   abbrev old : List Notice
   old = l .notices
 
@@ -101,15 +103,19 @@ module _ (c : Counts) (l : Lists) (n : Notice) (ns : List Notice) (e : l .notice
         less : 5 ≤ k → leb 5 k ≡ false → ⊥
         less q l5 = omega (arith, leb-false 5 k l5)
 
-  timed-notices : (again : Bool) (k x y : ℕ) (z : ℤ) → Notices (timedPlacing again k x y l) old (plain.timed c again k x y z l)
-  unfolding plain.timed
-  timed-notices again k x y z =
+  dropped-notices : (again : Bool) (k x y : ℕ) (z : ℤ) → Notices (timedPlacing again k x y l) old (timedDropFirst c again k x y z l)
+  unfolding timedDropFirst
+  dropped-notices again k x y z =
       test (timedNeed c k x y)
       (λ g. rw g (test (noEffect again k x y l)
       (λ f. rw f (stepwise-same old))
       (λ f. rw f (by-limit (clausePlacing k x y l) old (dueFor k y z l) _
       (by-leaving (clausePlacing k x y l) old l _ (clause-notices again k x y z (clause-in c k x y g) f))))))
       (λ g. rw g tt)
+
+  timed-notices : (again : Bool) (k x y : ℕ) (z : ℤ) → Notices (timedPlacing again k x y l) old (plain.timed c again k x y z l)
+  timed-notices again k x y z =
+      subst (Notices (timedPlacing again k x y l) old) (drop-first c again k x y z l o named) (dropped-notices again k x y z)
 
   pub call-notices : (k : ListCall) → Notices (listPlacing k l) old (listsAfter c k l)
   unfolding listPlacing listsAfter plain.passivate plain.wait plain.cancel plain.finish
@@ -137,6 +143,6 @@ module _ (c : Counts) (l : Lists) (n : Notice) (ns : List Notice) (e : l .notice
   call-forward passivate = passivate-forward l n ns e (rw e at o)
   call-forward (wait y) = wait-forward l n ns e (rw e at o) c y
   call-forward (cancel x) = cancel-forward l n ns e (rw e at o) c x
-  call-forward (activate again k x y z) = timed-forward l n ns e (rw e at o) c again k x y z
+  call-forward (activate again k x y z) = timed-forward l n ns e (rw e at o) c named again k x y z
   call-forward (ifEmpty x) = set-later (isHead c x) l refl
   call-forward finish = finish-forward l n ns e (rw e at o) c

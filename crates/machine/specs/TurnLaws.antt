@@ -9,11 +9,12 @@ use lib.Dec.{eqb}
 use lib.ListN.{length, getD, set, length-set}
 use lib.Seq.{getD-set-same, getD-set-other, set-out}
 use borrow.Author.Tests.{eqb-true, eqb-false}
-use Rattle.rings.specs.Lists.{if_then_else_, decide, below, test}
+use Rattle.rings.specs.Lists.{if_then_else_, In, decide, below, test}
 use Rattle.counts.specs.declared.Counts.{Counts}
 use Rattle.counts.specs.Counts.{Allowed}
 use Rattle.model.specs.Tables.{Tables, Lists, Spells}
-use Rattle.model.specs.Formed.{notice-each}
+use Rattle.model.specs.Notices.{whos}
+use Rattle.model.specs.Formed.{notice-each, notice-process}
 use Rattle.model.specs.Once.{spelled-sized}
 use Rattle.sequencing.specs.Plain.{Result, refused, done, current, time}
 use Rattle.sequencing.specs.Meaning.{Follows, split}
@@ -82,9 +83,10 @@ module _ (c : Counts) (a : Allowed c) (m : Machine) (t : Tables) (s : Spells c (
   unfolding perform updatedAt
   perform-laws (onList k) =
       let f = split (l .notices) (s .some) in
+      let named : In 0 (whos (l .notices)) → ⊥ = λ i. omega (arith, notice-process c l t s 0 i) in
       go (listsAfter c k l) (lists-follow c l t (spelled-sized c l t s a) s k)
-      (call-notices c l (f .0) (f .1) (f .2) (s .in-order) (notice-each c l t s) k)
-      (call-forward c l (f .0) (f .1) (f .2) (s .in-order) (notice-each c l t s) k)
+      (call-notices c l (f .0) (f .1) (f .2) (s .in-order) (notice-each c l t s) named k)
+      (call-forward c l (f .0) (f .1) (f .2) (s .in-order) (notice-each c l t s) named k)
     where
       go : (r : Result Lists) → Follows c t r (tablesAfter c k t) → Notices (listPlacing k l) (l .notices) r → Later (time l) r
           → Then (Performed c (onList k) m) (changing m r)

@@ -18,10 +18,12 @@ use Rattle.sets.specs.Calls.{orNone}
 use Rattle.model.specs.Reading.{due-none}
 use Rattle.sequencing.specs.Choice.{clash, and-left, and-right}
 use Rattle.sequencing.specs.NoticeOps.{frontAll, dropped, hasNotice}
-use Rattle.sequencing.specs.Plain.{done, time, withNotices, above, leaving, dueFor, placed, noEffect, timedNeed, timed}
+use Rattle.sequencing.specs.Plain.{done, time, withNotices, above, leaving, dueFor, placed, noEffect, timedNeed}
 use Rattle.sequencing.specs.NoticeLaws.{ins-new, drop-in, drop-gone, drop-old, drop-sorted, drop-from, drop-due}
 use Rattle.sequencing.specs.BesideLaws.{before-none, after-none}
 use Rattle.sequencing.specs.Kept.{Kept, kept-ins, dropped-within, dropped-idle}
+use Rattle.sequencing.specs.PutLaws.{front-first}
+use Rattle.sequencing.specs.Replace.{timedDropFirst}
 use Rattle.sequencing.specs.PlacedLaws.{placed-sorted, due-beside, not-ended, others-y}
 use Rattle.sequencing.specs.Procedures.{Sqs, made, timeOf, idleAt, found, dropOn, cancelled, vain, dueAt, placeFor, scheduled, activated}
 use Rattle.sequencing.specs.ByDue.{by-behind, by-front}
@@ -47,10 +49,6 @@ not-not false = refl
 and-tail : (a b d : Bool) → (a ≡ true → b ≡ d) → (a && b) ≡ (a && d)
 and-tail true b d f = f refl
 and-tail false b d f = refl
-
-pub front-first : (n : Notice) (t : ℕ) (l : List Notice) → n .due ≤ t → From t l → frontAll n l ≡ n ∷ l
-front-first n t [] b f = refl
-front-first n t (k ∷ ks) b f = rw (le-ltb (k .due) (n .due) (omega (arith, f .0)))
 
 from-first : (n : Notice) (ns : List Notice) → InOrder (n ∷ ns) → From (n .due) (n ∷ ns)
 from-first n ns o = (omega arith, o .0)
@@ -188,8 +186,8 @@ module _ (c : Counts) (M : Lists) (t : Tables) (sp : Spells c M t) (n : Notice) 
   its-process again k x y (Party.proc p) f = p
 
   pub timed-agrees : (again : Bool) (k x y : ℕ) (z : ℤ) → timedNeed c k x y ≡ true
-      → Agrees c t (timed c again k x y z M) (activated m again k (x - c .heads) (y - c .heads) (above z) (t .marks) a)
-  unfolding timed activated
+      → Agrees c t (timedDropFirst c again k x y z M) (activated m again k (x - c .heads) (y - c .heads) (above z) (t .marks) a)
+  unfolding timedDropFirst activated
   timed-agrees again k x y z g =
       let px : Party c x = party c x (and-right (leb k 6) _ (and-left (leb k 6 && orNone (isProcess c x) x) _ g)) in
       let k6 : k ≤ 6 = leb-true k 6 (and-left (leb k 6) _ (and-left (leb k 6 && orNone (isProcess c x) x) _ g)) in

@@ -1,6 +1,6 @@
 -- No call takes time back: after an accepted sequencing call the time is at least what it was.
 use Prim.Native.Nat.{ℕ, _+_, _≤_}
-use mathlib.Core.Path.{_≡_}
+use mathlib.Core.Path.{_≡_, subst}
 use mathlib.Core.Bool.{Bool, true, false, not, _||_}
 use mathlib.Core.List.{List, [], _∷_}
 use mathlib.Core.Logic.{_≢_}
@@ -22,15 +22,13 @@ use Rattle.sequencing.specs.NoticeLaws.{drop-in, ins-from, from-due, dro
 use Rattle.sequencing.specs.PutLaws.{last-ins, front-ins}
 use Rattle.sequencing.specs.BesideLaws.{before-ins, after-ins, before-none, after-none}
 use Rattle.sequencing.specs.StepPromise.{clause-in}
+use Rattle.sequencing.specs.Replace.{timedDropFirst, drop-first}
 use Rattle.sequencing.specs.AgreeEnds.{has-in, has-none}
 
 -- refused, or done at a time that is at least t
 abbrev pub Later : ℕ → Result Lists → Type 0
 Later t (refused r) = Unit {0}
 Later t (done l) = t ≤ time l
-
-first-from : (t : ℕ) (n : Notice) (ns : List Notice) → From t (n ∷ ns) → t ≤ first (n ∷ ns) .due
-first-from t n ns f = f .0
 
 leaving-later : (t : ℕ) (l : Lists) (ns : List Notice) → From t ns → Later t (leaving l ns)
 leaving-later t l [] f = tt
@@ -113,9 +111,9 @@ module _ (l : Lists) (n : Notice) (ns : List Notice) (e : l .notices ≡ n ∷ n
       (λ h. rw (q, h) (from-due (time l) y (l .notices) all-from (g (leb-true 5 k h))))
       (λ h. rw (q, h) (omega arith)))
 
-  pub timed-forward : (c : Counts) (again : Bool) (k x y : ℕ) (z : ℤ) → Later (time l) (timed c again k x y z l)
-  unfolding timed
-  timed-forward c again k x y z =
+  dropped-forward : (c : Counts) (again : Bool) (k x y : ℕ) (z : ℤ) → Later (time l) (timedDropFirst c again k x y z l)
+  unfolding timedDropFirst
+  dropped-forward c again k x y z =
       test (timedNeed c k x y)
       (λ g. rw g
       (test (noEffect again k x y l)
@@ -126,3 +124,6 @@ module _ (l : Lists) (n : Notice) (ns : List Notice) (e : l .notices ≡ n ∷ n
       (λ on. due-forward k y z (λ h. drop-in x (l .notices) y (on h)))
       (drop-from x (time l) (l .notices) all-from)))))))
       (λ g. rw g tt)
+
+  pub timed-forward : (c : Counts) → (In 0 (whos (l .notices)) → ⊥) → (again : Bool) (k x y : ℕ) (z : ℤ) → Later (time l) (timed c again k x y z l)
+  timed-forward c f again k x y z = subst (Later (time l)) (drop-first c again k x y z l (rw e o) f) (dropped-forward c again k x y z)

@@ -21,6 +21,7 @@ pub mod Kept
 pub mod Agree
 pub mod AgreeEnds
 pub mod PlacedLaws
+pub mod Replace
 pub mod AgreeTimed
 pub mod StepPromise
 pub mod ReadPromise
@@ -28,4 +29,3 @@ pub mod Meaning
 pub mod QueryMeaning
 pub mod Ties
 pub mod Forward
-pub mod Replace

@@ -20,6 +20,7 @@ use Rattle.model.specs.declared.answer.Answer.{Answer}
 use Rattle.model.specs.declared.answer.Answer.the-variants.{Done, Refused}
 use Rattle.model.specs.Notices.{Notice}
 use Rattle.model.specs.Tables.{Tables, Lists, After, Sized, Spells}
+use Rattle.model.specs.Formed.{notice-process}
 use Rattle.model.specs.Answers.{called}
 use Rattle.sets.specs.Calls.{orNone}
 use Rattle.sets.specs.Sets.{precedeSets}
@@ -34,6 +35,7 @@ use Rattle.sequencing.specs.Calls.{Marked, holdStep, passivateStep, canc
 use Rattle.sequencing.specs.Places.{half, Process}
 use Rattle.sequencing.specs.Agree.{sqsOf, withSqs, withMarks, Agrees, AgreesMarked, st, first-is, process-first, hold-agrees}
 use Rattle.sequencing.specs.AgreeEnds.{passivate-agrees, cancel-agrees, finish-agrees, lone-leaves, wait-agrees}
+use Rattle.sequencing.specs.Replace.{timedDropFirst, drop-first}
 use Rattle.sequencing.specs.AgreeTimed.{timed-agrees}
 
 -- the call does what the plain call does
@@ -56,8 +58,8 @@ split [] l = absurd (not-suc-le-zero l)
 split (n ∷ k) l = (n, k, refl)
 
 -- a clause up to 4 does not look at Y
-timed-plain : (c : Counts) (again : Bool) (k x y : ℕ) (z : ℤ) (l : Lists) → k < 5 → timed c again k x y z l ≡ timed c again k x 0 z l
-unfolding timed dueFor placed noEffect
+timed-plain : (c : Counts) (again : Bool) (k x y : ℕ) (z : ℤ) (l : Lists) → k < 5 → timedDropFirst c again k x y z l ≡ timedDropFirst c again k x 0 z l
+unfolding timedDropFirst dueFor placed noEffect
 timed-plain c again k x y z l h =
     rw (lt-leb 5 k h, ne-eqb k 5 (λ e. omega arith), ne-eqb k 6 (λ e. omega arith))
 
@@ -97,11 +99,11 @@ module _ (c : Counts) (l : Lists) (t : Tables) (w : Sized c t) (s : Spells c l t
   unfolding cancelStep cancel
   cancel-off x g = rw g (refl, refl)
 
-  timed-on : (again : Bool) (k x y : ℕ) (z : ℤ) → timedNeed c k x y ≡ true → Follows c t (timed c again k x y z l) (onSqs (λ m a. timedStep c again k x y z m a) t)
+  timed-on : (again : Bool) (k x y : ℕ) (z : ℤ) → timedNeed c k x y ≡ true → Follows c t (timedDropFirst c again k x y z l) (onSqs (λ m a. timedStep c again k x y z m a) t)
   unfolding timedStep
   timed-on again k x y z g =
       test (leb 5 k)
-      (λ h. rw (g, h) (follows-sqs c t (timed c again k x y z l) _ (timed-agrees c l t s n ns e again k x y z g)))
+      (λ h. rw (g, h) (follows-sqs c t (timedDropFirst c again k x y z l) _ (timed-agrees c l t s n ns e again k x y z g)))
       (λ h.
       let k5 : k < 5 = leb-false 5 k h in
       let g0 : timedNeed c k x 0 ≡ true = subst (λ (b : Bool). (leb k 6 && orNone (isProcess c x) x && (not b || orNone (isProcess c 0) 0)) ≡ true) (sym h) (rw h at g) in
@@ -113,12 +115,12 @@ module _ (c : Counts) (l : Lists) (t : Tables) (w : Sized c t) (s : Spells c l t
         answer = activated (half c) again k (x - c .heads) 0 (above z) (t .marks) (sqsOf t) .answer;
       }))
       (sym (timed-plain c again k x y z l k5))
-      (follows-sqs c t (timed c again k x 0 z l) _
-      (subst (λ (j : ℕ). Agrees c t (timed c again k x 0 z l) (activated (half c) again k (x - c .heads) j (above z) (t .marks) (sqsOf t))) zero-place
+      (follows-sqs c t (timedDropFirst c again k x 0 z l) _
+      (subst (λ (j : ℕ). Agrees c t (timedDropFirst c again k x 0 z l) (activated (half c) again k (x - c .heads) j (above z) (t .marks) (sqsOf t))) zero-place
       (timed-agrees c l t s n ns e again k x 0 z g0)))))
 
-  timed-off : (again : Bool) (k x y : ℕ) (z : ℤ) → timedNeed c k x y ≡ false → Follows c t (timed c again k x y z l) (onSqs (λ m a. timedStep c again k x y z m a) t)
-  unfolding timedStep timed
+  timed-off : (again : Bool) (k x y : ℕ) (z : ℤ) → timedNeed c k x y ≡ false → Follows c t (timedDropFirst c again k x y z l) (onSqs (λ m a. timedStep c again k x y z m a) t)
+  unfolding timedStep timedDropFirst
   timed-off again k x y z g = rw g (refl, refl)
 
   -- current's place
@@ -214,8 +216,10 @@ module _ (c : Counts) (l : Lists) (t : Tables) (w : Sized c t) (s : Spells c l t
 
   pub timed-means : (again : Bool) (k x y : ℕ) (z : ℤ) → Follows c t (timed c again k x y z l) (called c (onSqs (λ m a. timedStep c again k x y z m a)) t)
   timed-means again k x y z =
-      rw (called-is c l t w s (onSqs (λ m a. timedStep c again k x y z m a)))
-      (test (timedNeed c k x y) (timed-on again k x y z) (timed-off again k x y z))
+      subst (λ (r : Result Lists). Follows c t r (called c (onSqs (λ m a. timedStep c again k x y z m a)) t))
+      (drop-first c again k x y z l (s .in-order) (λ i. omega (arith, notice-process c l t s 0 i)))
+      (rw (called-is c l t w s (onSqs (λ m a. timedStep c again k x y z m a)))
+      (test (timedNeed c k x y) (timed-on again k x y z) (timed-off again k x y z)))
 
   pub finish-means : Follows c t (finish c l) (called c (onMarks (λ k a. finishStep c k a)) t)
   finish-means =

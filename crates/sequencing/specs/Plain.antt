@@ -105,13 +105,21 @@ noEffect again k x y l =
 abbrev pub timedNeed : Counts → ℕ → ℕ → ℕ → Bool
 timedNeed c k x y = leb k 6 && orNone (isProcess c x) x && (not (leb 5 k) || orNone (isProcess c y) y)
 
--- X's new notice stands among the others' as its clause says, and X's earlier one is deleted; "time" is read before that
+-- while X's earlier notice stands beside it the new one goes by 0, the number of no process; then it gets its name
+abbrev pub named : ℕ → List Notice → List Notice
+named x [] = []
+named x (k ∷ ks) = (if eqb (k .who) 0 then record { who = x; due = k .due } else k) ∷ named x ks
+
+-- "X's new notice has time u and stands" where its clause says; "Reactivate then deletes X's earlier notice" (activate found none)
+abbrev pub replaced : ℕ → ℕ → ℕ → ℕ → List Notice → List Notice
+replaced k x y u ns = named x (dropped x (placed k y (record { who = 0; due = u }) ns))
+
+-- "Activate and reactivate, unless without effect"; again is true for reactivate
 unfoldable pub timed : Counts → Bool → ℕ → ℕ → ℕ → ℤ → Lists → Result Lists
 timed c again k x y t l =
     let u = dueFor k y t l in
     need (timedNeed c k x y)
-    (if noEffect again k x y l then done l
-    else upTo u (leaving l (placed k y (record { who = x; due = u }) (dropped x (l .notices)))))
+    (if noEffect again k x y l then done l else upTo u (leaving l (replaced k x y u (l .notices))))
 
 abbrev pub activate : Counts → ℕ → ℕ → ℕ → ℤ → Lists → Result Lists
 activate c k x y t l = timed c false k x y t l

@@ -1,12 +1,12 @@
 -- Where an inserted notice stands: behind all of its time, in front of all from its time on.
-use Prim.Native.Nat.{ℕ, _≤_}
-use mathlib.Core.Path.{refl, sym}
+use Prim.Native.Nat.{ℕ, suc, _≤_}
+use mathlib.Core.Path.{_≡_, refl, sym}
 use mathlib.Core.Logic.{_⊎_, inl, inr, ⊎-elim}
 use mathlib.Core.List.{List, [], _∷_}
 use native.Mathlib.Omega.{arith}
 use borrow.Author.Tests.{eq-eqb, ne-eqb, le-leb, lt-leb, lt-ltb, le-ltb}
 use Rattle.rings.specs.Lists.{In, decide, below}
-use Rattle.model.specs.Notices.{Notice, whos, dueOf, InOrder}
+use Rattle.model.specs.Notices.{Notice, whos, dueOf, From, InOrder}
 use Rattle.sequencing.specs.NoticeOps.{behindAll, frontAll}
 use Rattle.sequencing.specs.Orders.{Before}
 use Rattle.sequencing.specs.NoticeLaws.{Ins, ins-new, ins-from, from-less, from-due}
@@ -63,3 +63,13 @@ module _ (n : Notice) where
       (λ e. absurd (omega (arith, rw (eq-eqb (k .who) a e) at l)))
       (λ d. inr (front-stands ks a (⊎-elim (λ e. absurd (d (sym e))) (λ j. j) i) (rw (ne-eqb (k .who) a d) at l)))))
       (λ late. rw (le-ltb (k .due) (n .due) late) (inl (refl, i)))
+
+-- ---- at the front already
+
+pub behind-first : (n : Notice) (l : List Notice) → From (suc (n .due)) l → behindAll n l ≡ n ∷ l
+behind-first n [] f = refl
+behind-first n (k ∷ ks) f = rw (lt-leb (k .due) (n .due) (f .0))
+
+pub front-first : (n : Notice) (t : ℕ) (l : List Notice) → n .due ≤ t → From t l → frontAll n l ≡ n ∷ l
+front-first n t [] b f = refl
+front-first n t (k ∷ ks) b f = rw (le-ltb (k .due) (n .due) (omega (arith, f .0)))

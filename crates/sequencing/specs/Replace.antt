@@ -1,7 +1,7 @@
--- Reactivate in the papers' order: the new notice is placed while X's earlier one still stands, and then the earlier one is deleted.
--- It leaves the same list as dropping the earlier one first, as `timed` and the tables do.
+-- Activate and reactivate in the tables' order: X's earlier notice is dropped, then the new one is placed. `timed` has the papers' order, in
+-- which the new notice is placed while the earlier one still stands. Both leave the same lists.
 use Prim.Native.Nat.{ℕ, suc, _≤_}
-use mathlib.Core.Path.{_≡_, refl, sym, ap, _∙_, subst}
+use mathlib.Core.Path.{_≡_, refl, sym, ap, _∙_}
 use mathlib.Core.Logic.{_≢_, inl, inr}
 use mathlib.Core.Bool.{Bool, true, false, _||_}
 use mathlib.Core.List.{List, [], _∷_}
@@ -12,35 +12,23 @@ use borrow.Author.Tests.{eq-eqb, ne-eqb, eqb-false, le-leb, lt-leb, lt-ltb, le-l
 use Rattle.rings.specs.Lists.{if_then_else_, In, decide, below, test}
 use Rattle.counts.specs.declared.Counts.{Counts}
 use Rattle.model.specs.Notices.{Notice, whos, From, InOrder}
-use Rattle.model.specs.Tables.{Tables, Lists, Sized, Spells}
-use Rattle.model.specs.Formed.{notice-process}
-use Rattle.model.specs.Answers.{called}
+use Rattle.model.specs.Tables.{Lists}
 use Rattle.sequencing.specs.NoticeOps.{behindAll, frontAll, before, after, dropped, hasNotice}
 use Rattle.sequencing.specs.NoticeLaws.{from-less, drop-from, drop-in}
 use Rattle.sequencing.specs.BesideLaws.{before-none, after-none}
 use Rattle.sequencing.specs.PlacedLaws.{not-none, others-y}
 use Rattle.sequencing.specs.AgreeEnds.{has-none}
-use Rattle.sequencing.specs.AgreeTimed.{front-first}
 use Rattle.sequencing.specs.StepPromise.{clause-in}
-use Rattle.sequencing.specs.Calls.{timedStep, onSqs}
-use Rattle.sequencing.specs.Meaning.{Follows, timed-means}
-use Rattle.sequencing.specs.Plain.{Result, done, need, upTo, leaving, dueFor, placed, noEffect, timedNeed, timed}
+use Rattle.sequencing.specs.PutLaws.{behind-first, front-first}
+use Rattle.sequencing.specs.Plain.{Result, done, need, upTo, leaving, dueFor, placed, noEffect, timedNeed, named, replaced, timed}
 
--- until the earlier notice is gone the new one goes by 0, the number of no process; now it gets its name
-abbrev pub named : ℕ → List Notice → List Notice
-named x [] = []
-named x (k ∷ ks) = (if eqb (k .who) 0 then record { who = x; due = k .due } else k) ∷ named x ks
-
--- "X's new notice has time u and stands .. Reactivate then deletes X's earlier notice"
-abbrev pub replaced : ℕ → ℕ → ℕ → ℕ → List Notice → List Notice
-replaced k x y u ns = named x (dropped x (placed k y (record { who = 0; due = u }) ns))
-
--- activate and reactivate in that order
-unfoldable pub timedInOrder : Counts → Bool → ℕ → ℕ → ℕ → ℤ → Lists → Result Lists
-timedInOrder c again k x y t l =
+-- activate and reactivate in the tables' order
+unfoldable pub timedDropFirst : Counts → Bool → ℕ → ℕ → ℕ → ℤ → Lists → Result Lists
+timedDropFirst c again k x y t l =
     let u = dueFor k y t l in
     need (timedNeed c k x y)
-    (if noEffect again k x y l then done l else upTo u (leaving l (replaced k x y u (l .notices))))
+    (if noEffect again k x y l then done l
+    else upTo u (leaving l (placed k y (record { who = x; due = u }) (dropped x (l .notices)))))
 
 -- ---- each way of placing
 
@@ -78,16 +66,12 @@ module _ (x u : ℕ) (some : x ≢ 0) where
     λ d. rw (ne-eqb (k .who) x d, ne-eqb (k .who) 0 z) (ap (λ (l : List Notice). k ∷ l) e),
   )
 
-  behind-first : (ns : List Notice) → From (suc u) ns → behindAll its ns ≡ its ∷ ns
-  behind-first [] f = refl
-  behind-first (k ∷ ks) f = rw (lt-leb (k .due) u (f .0))
-
   replaced-behind : (ns : List Notice) → InOrder ns → Named ns → named x (dropped x (behindAll new ns)) ≡ behindAll its (dropped x ns)
   replaced-behind [] o f = here [] f
   replaced-behind (k ∷ ks) o f =
       below u (k .due)
       (λ l. rw (lt-leb (k .due) u l)
-      (here (k ∷ ks) f ∙ sym (behind-first (dropped x (k ∷ ks)) (drop-from x (suc u) (k ∷ ks) (l, from-less (suc u) (k .due) ks l (o .0))))))
+      (here (k ∷ ks) f ∙ sym (behind-first its (dropped x (k ∷ ks)) (drop-from x (suc u) (k ∷ ks) (l, from-less (suc u) (k .due) ks l (o .0))))))
       (λ l.
       let r = there k (behindAll new ks) (behindAll its (dropped x ks)) (λ e. f (inl (sym e))) (replaced-behind ks (o .1) (λ i. f (inr i))) in
       rw (le-leb (k .due) u l) (decide (k .who) x
@@ -162,22 +146,14 @@ module _ (k x y u : ℕ) (some : x ≢ 0) (ns : List Notice) (o : InOrder ns) (f
       (λ e. rw (ne-eqb k 5 (λ q. omega arith), ne-eqb k 6 (λ q. omega arith), e) (replaced-behind x u some ns o f))
       (λ e. rw (ne-eqb k 5 (λ q. omega arith), ne-eqb k 6 (λ q. omega arith), e) (replaced-front x u some ns o f)))
 
--- activate and reactivate leave what the papers' order leaves, with the same refusals
-pub timed-in-order : (c : Counts) (again : Bool) (k x y : ℕ) (z : ℤ) (l : Lists) → InOrder (l .notices) → (In 0 (whos (l .notices)) → ⊥)
-    → timed c again k x y z l ≡ timedInOrder c again k x y z l
-unfolding timed timedInOrder
-timed-in-order c again k x y z l o f =
+-- so both orders leave the same lists, with the same refusals
+pub drop-first : (c : Counts) (again : Bool) (k x y : ℕ) (z : ℤ) (l : Lists) → InOrder (l .notices) → (In 0 (whos (l .notices)) → ⊥)
+    → timedDropFirst c again k x y z l ≡ timed c again k x y z l
+unfolding timed timedDropFirst
+drop-first c again k x y z l o f =
     test (timedNeed c k x y)
     (λ g. rw g (test (noEffect again k x y l)
     (λ q. rw q refl)
     (λ q. rw q (ap (λ (ns : List Notice). upTo (dueFor k y z l) (leaving l ns))
     (sym (replaced-is k x y (dueFor k y z l) (not-none again k x y l q) (l .notices) o f (clause-in c k x y g) (λ m h. others-y again k x y l m q h)))))))
     (λ g. rw g refl)
-
--- so in every well-formed model the public calls follow the papers' order
-pub in-order-means : (c : Counts) (l : Lists) (t : Tables) → Sized c t → Spells c l t → (again : Bool) (k x y : ℕ) (z : ℤ)
-    → Follows c t (timedInOrder c again k x y z l) (called c (onSqs (λ m a. timedStep c again k x y z m a)) t)
-in-order-means c l t w s again k x y z =
-    subst (λ (r : Result Lists). Follows c t r (called c (onSqs (λ m a. timedStep c again k x y z m a)) t))
-    (timed-in-order c again k x y z l (s .in-order) (λ i. omega (arith, notice-process c l t s 0 i)))
-    (timed-means c l t w s again k x y z)
