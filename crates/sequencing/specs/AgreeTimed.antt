@@ -7,7 +7,7 @@ use native.Mathlib.Omega.{arith}
 use lib.Dec.{leb, ltb, eqb}
 use lib.IntN.{ℤ, pos, negsuc, _+ℤ_}
 use lib.ListN.{getD}
-use borrow.Author.Tests.{eq-eqb, ne-eqb, eqb-true, eqb-false, le-leb, le-ltb, leb-true}
+use borrow.Author.Tests.{eq-eqb, ne-eqb, eqb-true, eqb-false, le-leb, leb-true}
 use Rattle.rings.specs.Lists.{if_then_else_, In, decide, test}
 use Rattle.rings.specs.Tabulate.{has, bit, listed-at}
 use Rattle.counts.specs.declared.Counts.{Counts}
@@ -17,7 +17,7 @@ use Rattle.model.specs.Tables.{Tables, Lists, Spells}
 use Rattle.sets.specs.Calls.{orNone}
 use Rattle.model.specs.Reading.{due-none}
 use Rattle.sequencing.specs.Choice.{clash, and-left, and-right}
-use Rattle.sequencing.specs.NoticeOps.{frontAll, dropped, hasNotice}
+use Rattle.sequencing.specs.NoticeOps.{dropped, hasNotice}
 use Rattle.sequencing.specs.Plain.{done, time, withNotices, above, leaving, dueFor, placed, noEffect, timedNeed}
 use Rattle.sequencing.specs.NoticeLaws.{ins-new, drop-in, drop-gone, drop-old, drop-sorted, drop-from, drop-due}
 use Rattle.sequencing.specs.BesideLaws.{before-none, after-none}

@@ -7,14 +7,14 @@ pub mod BesideLaws
 pub mod Choice
 pub mod AxisRing
 pub mod Procedures
-pub mod WalkBack
 pub mod ByDue
 pub mod Seek
 pub mod Places
 pub mod Spots
-pub mod Rank
 pub mod Plain
 pub mod Calls
+pub mod Published
+pub mod RankLaws
 pub mod Promise
 pub mod Sign
 pub mod Kept
@@ -26,6 +26,8 @@ pub mod AgreeTimed
 pub mod StepPromise
 pub mod ReadPromise
 pub mod Meaning
+pub mod ActivateLaws
+pub mod PublishedCalls
 pub mod QueryMeaning
 pub mod Ties
 pub mod Forward

@@ -1,13 +1,13 @@
 -- Tables that spell a list of notices, and what dropping a notice and linking one behind a place do to that list.
 use Prim.Native.Nat.{ℕ, suc, _+_, _-_, _<_, _≤_}
 use mathlib.Core.Path.{_≡_, refl, sym, ap, _∙_}
-use mathlib.Core.Logic.{_≢_, _⊎_, inl, inr, ⊎-elim}
-use mathlib.Core.List.{List, [], _∷_}
+use mathlib.Core.Logic.{_≢_, _⊎_, inr, ⊎-elim}
+use mathlib.Core.List.{List, _∷_}
 use native.Mathlib.Omega.{arith}
-use lib.ListN.{length, getD, set}
+use lib.ListN.{getD, set}
 use lib.Seq.{getD-take}
-use borrow.Author.Tests.{eq-eqb, ne-eqb, lt-ltb, le-ltb}
-use Rattle.rings.specs.Lists.{In, below}
+use borrow.Author.Tests.{eq-eqb, ne-eqb}
+use Rattle.rings.specs.Lists.{In}
 use Rattle.rings.specs.Chain.{Chain}
 use Rattle.rings.specs.Distinct.{Dist}
 use Rattle.rings.specs.Rings.{Head, Link, apart, next-place}
@@ -17,13 +17,12 @@ use Rattle.model.specs.Tables.{axisHead, SpellsAxis}
 use Rattle.sequencing.specs.AxisRing.{axis-unlinked, axis-drop}
 use Rattle.rings.specs.Tabulate.{listed, listed-at}
 use Rattle.counts.specs.declared.Counts.{Counts}
-use Rattle.model.specs.Notices.{Notice, dueOf, whos, places, From, InOrder}
+use Rattle.model.specs.Notices.{Notice, dueOf, whos, places}
 use Rattle.sequencing.specs.NoticeOps.{dropped}
-use Rattle.sequencing.specs.NoticeLaws.{drop-due, from-less}
+use Rattle.sequencing.specs.NoticeLaws.{drop-due}
 use Rattle.model.specs.Reading.{Timed, timed as timed-by, who-place, dist-whos}
-use Rattle.sequencing.specs.Procedures.{Sqs, walk, dropOn}
-use Rattle.sequencing.specs.WalkBack.{walk-stop, walk-on}
-use Rattle.sequencing.specs.ByDue.{spotIn, listed-set, due-dropped, places-in}
+use Rattle.sequencing.specs.Procedures.{Sqs, dropOn}
+use Rattle.sequencing.specs.ByDue.{listed-set, due-dropped, places-in}
 
 -- P + 2
 abbrev pub half : Counts → ℕ
@@ -37,30 +36,6 @@ pub record SpellsTime (c : Counts) (ns : List Notice) (a : Sqs) : Type 0 where
 pub record Process (c : Counts) (x : ℕ) : Type 0 where
   pub over : c .heads < x
   pub upto : x ≤ c .heads + c .processes
-
--- ---- the walk back along a chain of notices
-
-module _ (c : Counts) (m : ℕ) (times : List ℕ) (w : ℕ) (t : List ℕ) where
-  walk-late : (z : ℕ) (l : List Notice) (b j k : ℕ) → Chain (sucs m t) (pres m t) z (places c l) b → Timed c times l → From w l
-      → ((y : ℕ) → In y (places c l) → y ≢ m - 1) → k ≡ length l + j → walk m times w t k (pres m t b) ≡ walk m times w t j z
-  walk-late z [] b j k ch tm f g e = ap (walk m times w t k) (ch .prev) ∙ ap (λ (i : ℕ). walk m times w t i z) (omega arith)
-  walk-late z (n ∷ l) b j k ch tm f g e =
-      walk-late (n .who - c .heads) l b (suc j) k (ch .1) (tm .1) (f .1) (λ y i. g y (inr i)) (omega arith)
-      ∙ walk-on m times w t j (n .who - c .heads) (g (n .who - c .heads) (inl refl)) (omega (arith, f .0, tm .0))
-      ∙ ap (walk m times w t j) (ch .0 .prev)
-
-  pub walk-finds : (a : ℕ) (l : List Notice) (b k : ℕ) → Chain (sucs m t) (pres m t) a (places c l) b → Timed c times l → InOrder l
-      → ((y : ℕ) → In y (places c l) → y ≢ m - 1) → ((j : ℕ) → walk m times w t j a ≡ a) → length l ≤ k
-      → walk m times w t k (pres m t b) ≡ spotIn c w a l
-  walk-finds a [] b k ch tm o g s e = ap (walk m times w t k) (ch .prev) ∙ s k
-  walk-finds a (n ∷ l) b k ch tm o g s e =
-      below (n .due) w
-      (λ soon. rw (lt-ltb (n .due) w soon)
-      (walk-finds (n .who - c .heads) l b k (ch .1) (tm .1) (o .1) (λ y i. g y (inr i))
-      (λ j. walk-stop m times w t j (n .who - c .heads) (omega (arith, tm .0))) (omega arith)))
-      (λ late. rw (le-ltb (n .due) w late)
-      (walk-late a (n ∷ l) b (k - length (n ∷ l)) k ch tm (late, from-less w (n .due) l late (o .0)) g (omega arith)
-      ∙ s (k - length (n ∷ l))))
 
 module _ (c : Counts) (ns : List Notice) (a : Sqs) (sp : SpellsTime c ns a) where
   abbrev m : ℕ

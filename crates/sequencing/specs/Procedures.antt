@@ -1,5 +1,7 @@
--- The published procedures of SIMULATION as functions on the axis, the times and the marks: m is P + 2, the axis's own head (SQS)
--- stands at m - 1, and a process's notice at its place. d is T where that is above 0, else 0.
+-- The engine's own way through SIMULATION's procedures, on the axis, the times and the marks; the calls' promises cite it. It differs from
+-- the published text (Published.antt) where a table asks for it: X has one place, so its earlier notice goes before the new one is placed;
+-- T is clamped beforehand; RANK's place is looked for from both ends. PublishedCalls.antt proves that the published text leaves the same.
+-- m is P + 2, the axis's own head (SQS) stands at m - 1, and a process's notice at its place. d is T where that is above 0, else 0.
 use Prim.Native.Nat.{ℕ, zero, suc, _+_, _-_, max}
 use mathlib.Core.Bool.{Bool, not, _&&_, _||_}
 use mathlib.Core.List.{List}
@@ -51,16 +53,8 @@ idleAt a x = eqb (sucOf a x) 0
 abbrev pub lone : ℕ → Sqs → Bool
 lone m a = eqb (sucOf a (firstOf m a)) (m - 1)
 
--- P:- SQS.last; for P:- P while P.EVTIME >= w do P:- P.pred, with at most k steps; the head ends it
-unfoldable pub walk : ℕ → List ℕ → ℕ → List ℕ → ℕ → ℕ → ℕ
-walk m times w t zero p = p
-walk m times w t (suc k) p =
-    if eqb p (m - 1) then p else (if ltb (getD times p 0) w then p else walk m times w t k (getD t (m + p) 0))
-
-unfoldable pub lastBelow : ℕ → ℕ → Sqs → ℕ
-lastBelow m w a = walk m (a .times) w (a .axis) m (predOf m a (m - 1))
-
--- the same place, looked for from both ends at once: f from the first on, b from the last back
+-- behind which place a notice stands in front of all from w on: RANK's place, looked for from both ends at once, with at most k steps each;
+-- f goes on from the first, b back from the last
 unfoldable pub seekFrom : ℕ → List ℕ → ℕ → List ℕ → ℕ → ℕ → ℕ → ℕ
 seekFrom m times w t zero f b = b
 seekFrom m times w t (suc k) f b =
@@ -81,7 +75,7 @@ dropOn m x a = record { axis = unlinked m x (a .axis); times = set (a .times) x 
 unfoldable pub putOn : ℕ → ℕ → ℕ → ℕ → Sqs → Sqs
 putOn m x q u a = record { axis = linkedBehind m x q (a .axis); times = set (a .times) x u }
 
--- RANK (false) goes back while a time is above u
+-- RANK (false): behind all up to u
 abbrev pub ranked : ℕ → ℕ → ℕ → Sqs → Sqs
 ranked m x u a = putOn m x (found m (suc u) a) u a
 

@@ -11,7 +11,7 @@ use lib.IntN.{ℤ}
 use borrow.Author.Tests.{eq-eqb, ne-eqb, eqb-false, le-leb, lt-leb, lt-ltb, le-ltb}
 use Rattle.rings.specs.Lists.{if_then_else_, In, decide, below, test}
 use Rattle.counts.specs.declared.Counts.{Counts}
-use Rattle.model.specs.Notices.{Notice, whos, From, InOrder}
+use Rattle.model.specs.Notices.{Notice, whos, InOrder}
 use Rattle.model.specs.Tables.{Lists}
 use Rattle.sequencing.specs.NoticeOps.{behindAll, frontAll, before, after, dropped, hasNotice}
 use Rattle.sequencing.specs.NoticeLaws.{from-less, drop-from, drop-in}

@@ -20,11 +20,10 @@ use Rattle.sequencing.specs.NoticeOps.{before, after}
 use Rattle.sequencing.specs.NoticeLaws.{Ins, ins-due, ins-own}
 use Rattle.sequencing.specs.BesideLaws.{before-ins, after-ins}
 use Rattle.model.specs.Reading.{who-place, length-places}
-use Rattle.sequencing.specs.Procedures.{Sqs, predOf, lastBelow, seekFrom, found, putOn}
-use Rattle.sequencing.specs.WalkBack.{walk-head}
+use Rattle.sequencing.specs.Procedures.{Sqs, predOf, seekFrom, found, putOn}
 use Rattle.sequencing.specs.Seek.{seek-finds}
 use Rattle.sequencing.specs.ByDue.{byDue, by-ins, spotIn, spot-on, behind-spot}
-use Rattle.sequencing.specs.Places.{half, SpellsTime, Process, walk-finds, head, chain, member, off-head, dist-all, is-process, a-link, timed, unlinked-is, times-set}
+use Rattle.sequencing.specs.Places.{half, SpellsTime, Process, head, chain, member, off-head, dist-all, is-process, a-link, timed, unlinked-is, times-set}
 
 -- ---- a notice is linked behind the place q
 
@@ -56,13 +55,7 @@ module _ (c : Counts) (ns : List Notice) (a : Sqs) (sp : SpellsTime c ns a) wher
   pub few : length ns ≤ half c
   few = rw (length-places c ns) at (spells-few (half c) (axisHead (half c)) (λ h. places c ns) (a .axis) (sp .axis) (half c - 1) (head c ns a sp))
 
-  -- the walk back finds it, and the walk from both ends: the fuel is enough
-  pub walk-is : (w : ℕ) → InOrder ns → lastBelow (half c) w a ≡ spotIn c w (half c - 1) ns
-  unfolding lastBelow
-  walk-is w o =
-      walk-finds c (half c) (a .times) w (a .axis) (half c - 1) ns (half c - 1) (half c) (chain c ns a sp) (timed c ns a sp) o (off-head c ns a sp)
-      (λ j. walk-head (half c) (a .times) w (a .axis) j (half c - 1) refl) few
-
+  -- the search from both ends finds it: the fuel is enough
   pub seek-is : (w : ℕ) → InOrder ns → found (half c) w a ≡ spotIn c w (half c - 1) ns
   unfolding found
   seek-is w o =
@@ -71,10 +64,6 @@ module _ (c : Counts) (ns : List Notice) (a : Sqs) (sp : SpellsTime c ns a) wher
 
   pub found-spot : (n : Notice) (w : ℕ) → InOrder ns → Spot c ns n (found (half c) w a) (byDue w n ns)
   found-spot n w o = spot-at n w (found (half c) w a) (seek-is w o)
-
-  -- both ends find what the published walk finds
-  pub same-place : (w : ℕ) → InOrder ns → found (half c) w a ≡ lastBelow (half c) w a
-  same-place w o = seek-is w o ∙ sym (walk-is w o)
 
   -- in front of the first
   pub first-spot : (n : Notice) → Spot c ns n (half c - 1) (n ∷ ns)
