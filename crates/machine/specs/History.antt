@@ -96,12 +96,12 @@ noticesAt s n = state s n .lists .notices
 
 -- a's notice against b's, scheduled so: at equal times a's stands before the one placed behind, and behind the one placed in front;
 -- against one placed next to Y it stands as against Y, then, in the old list of processes
-abbrev pub Stands : How → Type 0 → ℕ → ℕ → List ℕ → List ℕ → Type 0
-Stands atFirst equal a b old now = Unit {0}
-Stands behind equal a b old now = equal → Before a b now
-Stands inFront equal a b old now = equal → Before b a now
-Stands (rightBefore y) equal a b old now = (a ≡ y → Before b a now) × (Before a y old → Before a b now) × (Before y a old → Before b a now)
-Stands (rightAfter y) equal a b old now = (a ≡ y → Before a b now) × (Before a y old → Before a b now) × (Before y a old → Before b a now)
+abbrev pub StandsTo : How → Type 0 → ℕ → ℕ → List ℕ → List ℕ → Type 0
+StandsTo atFirst equal a b old now = Unit {0}
+StandsTo behind equal a b old now = equal → Before a b now
+StandsTo inFront equal a b old now = equal → Before b a now
+StandsTo (rightBefore y) equal a b old now = (a ≡ y → Before b a now) × (Before a y old → Before a b now) × (Before y a old → Before b a now)
+StandsTo (rightAfter y) equal a b old now = (a ≡ y → Before a b now) × (Before a y old → Before a b now) × (Before y a old → Before b a now)
 
 -- when it is placed it has Y's time and stands next to Y
 abbrev pub Beside : How → ℕ → List Notice → Type 0
@@ -111,13 +111,22 @@ Beside inFront x ns = Unit {0}
 Beside (rightBefore y) x ns = (dueOf x ns ≡ dueOf y ns) × Next x y (whos ns)
 Beside (rightAfter y) x ns = (dueOf x ns ≡ dueOf y ns) × Next y x (whos ns)
 
+-- and Y had a notice then
+abbrev pub YThere : How → List ℕ → Type 0
+YThere atFirst old = Unit {0}
+YThere behind old = Unit {0}
+YThere inFront old = Unit {0}
+YThere (rightBefore y) old = In y old
+YThere (rightAfter y) old = In y old
+
 -- ---- the law of one step, from the notices old to new
 
 -- the notice that it places, against every other
 pub record Placed (h : How) (x : ℕ) (old new : List Notice) : Type 0 where
   pub present : In x (whos new)
+  pub y-there : YThere h (whos old)
   pub beside : Beside h x new
-  pub stands : (a : ℕ) → a ≢ x → In a (whos new) → Stands h (dueOf a new ≡ dueOf x new) a x (whos old) (whos new)
+  pub stands : (a : ℕ) → a ≢ x → In a (whos new) → StandsTo h (dueOf a new ≡ dueOf x new) a x (whos old) (whos new)
 
 abbrev pub PlacedBy : Placing → List Notice → List Notice → Type 0
 PlacedBy nothing old new = Unit {0}
@@ -139,10 +148,13 @@ pub record Stepwise (p : Placing) (old new : List Notice) : Type 0 where
 
 -- ---- the law of a run: after n steps
 
--- a has a notice, and b's was scheduled later, by and how e says. Then a's was there already, and the two stand as b's placing says
+-- a has a notice, and b's was scheduled later, by the step and in the way that e says. Then that step did place b so; a's notice was
+-- there already, and so was Y's where b was placed next to it; and the two stand as b's placing says
 pub record Tie (s : Sheet) (n a b : ℕ) (e : Scheduled) : Type 0 where
+  pub placed-so : placing s (state s (e .by - 1)) ≡ places b (e .how)
   pub there : In a (whos (noticesAt s (e .by - 1)))
-  pub stands : Stands (e .how) (dueOf a (noticesAt s n) ≡ dueOf b (noticesAt s n)) a b (whos (noticesAt s (e .by - 1))) (whos (noticesAt s n))
+  pub y-there : YThere (e .how) (whos (noticesAt s (e .by - 1)))
+  pub stands : StandsTo (e .how) (dueOf a (noticesAt s n) ≡ dueOf b (noticesAt s n)) a b (whos (noticesAt s (e .by - 1))) (whos (noticesAt s n))
 
 pub record Ties (s : Sheet) (n : ℕ) : Type 0 where
   -- no two notices were scheduled by one step, so of any two one is the later

@@ -13,7 +13,7 @@ use Rattle.sequencing.specs.Orders.{Before}
 use Rattle.sheet.specs.Sheet.{Sheet}
 use Rattle.machine.specs.Machine.{fresh}
 use Rattle.machine.specs.Run.{uncut, state}
-use Rattle.machine.specs.History.{How, atFirst, behind, inFront, rightBefore, rightAfter, Placing, nothing, places, placing, Scheduled, nowOr, scheduled, noticesAt, Stands, Placed, PlacedBy, isPlaced, Stepwise, Tie, Ties}
+use Rattle.machine.specs.History.{How, atFirst, behind, inFront, rightBefore, rightAfter, Placing, nothing, places, placing, Scheduled, nowOr, scheduled, noticesAt, StandsTo, Placed, PlacedBy, isPlaced, Stepwise, Tie, Ties}
 
 whichOf : (x : ℕ) (p : Placing) → isPlaced x p ≡ true → (h : How) × (p ≡ places x h)
 whichOf x nothing e = clash e
@@ -21,7 +21,7 @@ whichOf x (places q h) e = (h, ap (λ (z : ℕ). places z h) (eqb-true q x e))
 
 -- how two notices stand outlives a step that keeps their order
 stands-on : (h : How) (E E′ : Type 0) (a b : ℕ) (old now new : List ℕ) → (E′ → E) → (Before a b now → Before a b new) → (Before b a now → Before b a new)
-    → Stands h E a b old now → Stands h E′ a b old new
+    → StandsTo h E a b old now → StandsTo h E′ a b old new
 stands-on atFirst E E′ a b old now new e f g s = s
 stands-on behind E E′ a b old now new e f g s = λ q. f (s (e q))
 stands-on inFront E E′ a b old now new e f g s = λ q. g (s (e q))
@@ -109,13 +109,20 @@ module _ (s : Sheet) where
             subst (λ (p : Placing). PlacedBy p (noticesAt s n) (noticesAt s (suc n))) e (steps n .placed) in
             let off : isPlaced a (next n) ≡ false = ap (isPlaced a) e ∙ ne-eqb b a (λ q. other (sym q)) in
             let q : suc n - 1 ≡ n = omega arith in
-            record { there = rw q (steps n .others .there a off i); stands = rw q (p .stands a other i) }
+            record {
+              placed-so = rw q e;
+              there = rw q (steps n .others .there a off i);
+              y-there = rw q (p .y-there);
+              stands = rw q (p .stands a other i);
+            }
 
         older : isPlaced a (next n) ≡ false → isPlaced b (next n) ≡ false → Tie s n a b (scheduled s n b) → Tie s (suc n) a b (scheduled s n b)
         older qa qb t =
             let o = steps n .others in
             record {
+              placed-so = t .placed-so;
               there = t .there;
+              y-there = t .y-there;
               stands =
                   stands-on (scheduled s n b .how)
                   (dueOf a (noticesAt s n) ≡ dueOf b (noticesAt s n))

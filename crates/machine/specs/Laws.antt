@@ -23,6 +23,7 @@ use Rattle.machine.specs.Run.{uncut, state}
 use Rattle.machine.specs.History.{Stepwise, Ties, placing, noticesAt}
 use Rattle.machine.specs.HistoryLaw.{ties-of}
 use Rattle.machine.specs.Kept.{InRange, Kept}
+use Rattle.machine.specs.GoesFirst.{GoesFirst, goes-first}
 use Rattle.machine.specs.TurnLaws.{Going, turn-going, turn-stepwise, turn-forward}
 
 -- after n steps
@@ -30,6 +31,7 @@ pub record Laws (s : Sheet) (n : ℕ) : Type 0 where
   pub kept : Kept s (state s n)
   pub forward : time (state s n .lists) ≤ time (state s (suc n) .lists)
   pub ties : Ties s n
+  pub goes-first : GoesFirst s n
 
 -- ---- an accepted sheet is in range
 
@@ -106,7 +108,9 @@ module _ (s : Sheet) (r : InRange s) where
       }
 
   laws : (n : ℕ) → Laws s n
-  laws n = record { kept = going-kept (state s n) (going n); forward = forward n; ties = ties-of s steps n }
+  laws n =
+      let k = going-kept (state s n) (going n) in
+      record { kept = k; forward = forward n; ties = ties-of s steps n; goes-first = goes-first s n (k .notice-each) }
 
 pub machine-laws : (bytes : List ℕ) → accepted bytes ≡ true → (n : ℕ) → Laws (sheetOf bytes) n
 machine-laws bytes is n = laws (sheetOf bytes) (accepted-range bytes is) n

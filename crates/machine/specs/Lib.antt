@@ -13,6 +13,7 @@ pub mod Reading
 pub mod Agree
 pub mod Kept
 pub mod TurnLaws
+pub mod GoesFirst
 pub mod Laws
 pub mod Situations
 pub mod Worked

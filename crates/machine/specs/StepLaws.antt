@@ -97,6 +97,7 @@ module _ (k y : ℕ) (n : Notice) (old : List Notice) (o : InOrder old) (d : Dis
       (λ e. rw (eq-eqb k 5 e)
       (record {
         present = ins-new n ins;
+        y-there = g (omega arith) .0;
         beside = (y-due (omega arith), its .before-y e);
         stands = λ a f i. (
           λ q. rw q (next-before x y (whos new) (its .before-y e)),
@@ -108,6 +109,7 @@ module _ (k y : ℕ) (n : Notice) (old : List Notice) (o : InOrder old) (d : Dis
       (λ e. rw (ne-eqb k 5 n5, eq-eqb k 6 e)
       (record {
         present = ins-new n ins;
+        y-there = g (omega arith) .0;
         beside = (y-due (omega arith), its .after-y e);
         stands = λ a f i. (
           λ q. rw q (next-before y x (whos new) (its .after-y e)),
@@ -119,6 +121,7 @@ module _ (k y : ℕ) (n : Notice) (old : List Notice) (o : InOrder old) (d : Dis
       (λ e. rw (ne-eqb k 5 n5, ne-eqb k 6 n6, e)
       (record {
         present = ins-new n ins;
+        y-there = tt;
         beside = tt;
         stands = λ a f i q. its .behind (which k e) a f (was a f i) (omega (arith, equal-due a f q));
       }))
@@ -126,6 +129,7 @@ module _ (k y : ℕ) (n : Notice) (old : List Notice) (o : InOrder old) (d : Dis
       rw (ne-eqb k 5 n5, ne-eqb k 6 n6, e)
       (record {
         present = ins-new n ins;
+        y-there = tt;
         beside = tt;
         stands = λ a f i q. its .front (c .0) (c .1) (omega arith) a f (was a f i) (omega (arith, equal-due a f q));
       }))))

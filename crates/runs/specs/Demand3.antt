@@ -9,13 +9,14 @@ use Rattle.rings.specs.Distinct.{Dist, joined}
 use Rattle.model.specs.Notices.{whos}
 use Rattle.model.specs.Only.{tables-only}
 use Rattle.model.specs.declared.verdict.Verdict.the-variants.{Fine}
-use Rattle.sheet.specs.Sheet.{countsOf, recordsOf, sheetOf}
+use Rattle.sheet.specs.Sheet.{countsOf, recordsOf, Sheet, sheetOf}
 use Rattle.sheet.specs.Accepted.{accepted}
 use Rattle.machine.specs.Machine.{Machine, fresh}
 use Rattle.machine.specs.Run.{call, calls, state}
 use Rattle.machine.specs.Run as machine
 use Rattle.machine.specs.Uncut.{Joined, calls-joined}
 use Rattle.machine.specs.History.{Tie, scheduled, noticesAt}
+use Rattle.machine.specs.GoesFirst.{GoesFirst}
 use Rattle.machine.specs.Laws.{Laws, machine-laws}
 use Rattle.runs.specs.Run.{RunTables, runJudged, RanOn, runOn}
 use Rattle.runs.specs.Judging.{judged-fine, passed-standing}
@@ -45,11 +46,12 @@ AllAgree bytes (b ∷ bs) (r ∷ rs) (o ∷ os) = Agrees bytes b r o × AllAgree
 pub record Demand3 (bytes : List ℕ) (buffers : List (List ℕ)) : Type 0 where
   -- the fresh run is the fresh machine's
   pub begins : Stands (countsOf bytes) (recordsOf bytes) (fresh (sheetOf bytes)) (freshRun (countsOf bytes) bytes)
-  -- "every line, every answer and the model after equal those of .. the plain machine"
+  -- "every line, every answer and the model after .. equal those of document 01's plain machine"
   pub agree : AllAgree bytes buffers (calls (sheetOf bytes) (fresh (sheetOf bytes)) (lengths buffers)) (runs bytes (freshRun (countsOf bytes) bytes) buffers)
   -- "All lines joined are the first of a machine never cut", and the machine after the calls is that one's
   pub joined-lines : Joined (sheetOf bytes) (fresh (sheetOf bytes)) (lengths buffers)
-  -- that machine, after any number of steps: "no link twice in the sets, no process with two notices, time never back; ties in the stated order"
+  -- that machine, after any number of steps: "No link stands twice in the sets, no process has two notices, and no step takes time back",
+  -- and ties stand in the stated order
   pub laws : (n : ℕ) → Laws (sheetOf bytes) n
 
 -- ---- the theorem
@@ -82,13 +84,18 @@ any-run bytes ok u b e =
 
 -- ---- the auditor's two questions
 
--- "when two things fall due at one tick, which goes first, always?": after n steps, of two notices the later scheduled stands as its
--- placing says
-pub which-first : (bytes : List ℕ) → accepted bytes ≡ true → (n a b : ℕ) → In a (whos (noticesAt (sheetOf bytes) n)) → In b (whos (noticesAt (sheetOf bytes) n))
-    → scheduled (sheetOf bytes) n a .by < scheduled (sheetOf bytes) n b .by → Tie (sheetOf bytes) n a b (scheduled (sheetOf bytes) n b)
-which-first bytes ok n a b = machine-laws bytes ok n .ties .tie a b
+-- When two things fall due at one tick, which goes first, always? After n steps a and b have notices, and b's was scheduled later
+pub record WhichFirst (s : Sheet) (n a b : ℕ) : Type 0 where
+  -- then the two stand as b's placing says
+  pub tie : Tie s n a b (scheduled s n b)
+  -- and to stand before is to go first
+  pub goes-first : GoesFirst s n
 
--- "can a crate stand in two queues?": no link stands twice in the sets, all sets together, after any number of steps
+pub which-first : (bytes : List ℕ) → accepted bytes ≡ true → (n a b : ℕ) → In a (whos (noticesAt (sheetOf bytes) n)) → In b (whos (noticesAt (sheetOf bytes) n))
+    → scheduled (sheetOf bytes) n a .by < scheduled (sheetOf bytes) n b .by → WhichFirst (sheetOf bytes) n a b
+which-first bytes ok n a b i j l = let w = machine-laws bytes ok n in record { tie = w .ties .tie a b i j l; goes-first = w .goes-first }
+
+-- Can a crate stand in two queues and be counted twice? No link stands twice in the sets, all sets together, after any number of steps
 pub stands-once : (bytes : List ℕ) → accepted bytes ≡ true → (n : ℕ) → Dist (joined (state (sheetOf bytes) n .lists .sets))
 stands-once bytes ok n = machine-laws bytes ok n .kept .links-once
 
