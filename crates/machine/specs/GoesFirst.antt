@@ -1,4 +1,4 @@
--- "Stands before" means "goes first": the process of the first notice is the one that steps next, and no process steps while another's
+-- To stand before is to go first: the process of the first notice is the one that steps next, and no process steps while another's
 -- notice stands before its own.
 use Prim.Native.Nat.{ℕ}
 use mathlib.Core.Path.{_≡_, sym, ap, subst}

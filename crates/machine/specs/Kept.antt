@@ -26,10 +26,10 @@ pub record InRange (s : Sheet) : Type 0 where
   pub record-in : (r : ℕ) → 1 ≤ r → r ≤ length (s .records) → Ranged (headerIs s) (recordOf s r)
 
 pub record Kept (s : Sheet) (m : Machine) : Type 0 where
-  -- "no link twice in the sets", all sets taken together; only links stand there
+  -- "No link stands twice in the sets", all sets taken together; only links stand there
   pub links-once : Dist (joined (m .lists .sets))
   pub only-links : (x : ℕ) → In x (joined (m .lists .sets)) → (s .counts .heads < x) × (x ≤ total (s .counts))
-  -- "no process with two notices"; only processes have one
+  -- "no process has two notices"; only processes have one
   pub notice-each : Dist (whos (m .lists .notices))
   pub only-processes : (x : ℕ) → In x (whos (m .lists .notices)) → (s .counts .heads < x) × (x ≤ s .counts .heads + s .counts .processes)
   -- "at least one process and its times, none above the limit, never fall"

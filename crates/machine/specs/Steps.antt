@@ -63,7 +63,7 @@ itsCall q l = callOf q (operandOf l (q .x)) (operandOf l (q .y))
 abbrev pub itsNext : Record → Lists → ℕ
 itsNext q l = nextOf q (noLinks (membersOf (l .sets) (operandOf l (q .x))))
 
--- "one step: the record's call, or finish at position 0"; "A finish leaves its position at 0"
+-- "one step: the record's call, or finish at position 0"; a finish leaves the position at 0
 unfoldable pub callNow : Sheet → Machine → Call
 callNow s m = if eqb (recordNow s m) 0 then onList finish else itsCall (recordOf s (recordNow s m)) (m .lists)
 

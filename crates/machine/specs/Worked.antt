@@ -57,7 +57,7 @@ unfoldable pub brings : Sheet → List ℕ → List Want → Bool
 unfolding u32At u64At i64At countsOf recordsOf startAt recordFrom sheetOf plain.hold plain.passivate plain.finish dueFor placed noEffect timed mayUpdate grownOf updatedOf fresh listsAfter perform operandOf callOf nextOf callNow nextNow step turn turns call calls
 brings s lens ws = bring (calls s (fresh s) lens) ws
 
--- ---- the worked sheet: "0 2 1, 0 2 2, 5 3 3, 5 3 0, finished 4"
+-- ---- the worked sheet: lines 0 2 1, 0 2 2, 5 3 3 and 5 3 0, then finished
 
 -- with room to spare; with room for just its lines, since finished comes before full; with a byte less; in pieces, with a buffer
 -- that is too long, and one after the end

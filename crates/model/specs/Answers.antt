@@ -27,7 +27,7 @@ valueOf (Number n) = n
 valueOf (Truth b) = bit b
 valueOf (Refused r) = 0
 
--- "A refusal returns its number and changes no lent byte. Order: 8, 1, 2, 3, then the rest": tables that are turned down stay as they
+-- "A refusal returns its number and changes no lent byte .. Order: 8, 1, 2, 3, then the rest": tables that are turned down stay as they
 -- are, and f is what the call does to the others
 abbrev pub turning : Verdict → Tables → After Answer → After Answer
 turning Fine t a = a

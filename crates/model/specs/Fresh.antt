@@ -30,7 +30,7 @@ unfoldable pub freshHeads : ℕ → ℕ → List ℕ → List ℕ
 freshHeads m zero t = t
 freshHeads m (suc n) t = selfLinked m (suc n) (freshHeads m n t)
 
--- "SQS :- new head; ..; main.EVENT.into(SQS)": the axis of p processes
+-- "SQS :- new head; .. main.EVENT :- new EVENT NOTICE (0,main)", which goes into SQS: the axis of p processes
 unfoldable pub freshAxis : ℕ → List ℕ
 freshAxis p = linkedBefore (p + 2) 1 (p + 1) (selfLinked (p + 2) (p + 1) (zeros (2 * (p + 2))))
 

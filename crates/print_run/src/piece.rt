@@ -40,7 +40,7 @@ pub(crate) fn piece(
     )
 }
 
-// The line whose 16 bytes begin at i: "time process record".
+// The line whose 16 bytes begin at i: its time, process and record.
 fn put_line(out: &mut [u8; 4096], at: usize, trace: &[u8], i: usize) -> usize
     requires { ⌜ i + 16 ≤ length (now trace) ⌝ }
     requires { ⌜ at + 128 ≤ 4096 ⌝ }

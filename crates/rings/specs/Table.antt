@@ -17,15 +17,15 @@ pub record Made (m : ℕ) (want got : List ℕ) : Type 0 where
   pub is : got ≡ want
   pub sound : Sound m got
 
--- SUC.PRED :- PRED; PRED.SUC :- SUC; SUC :- PRED :- none, with s the successor and p the predecessor of x
+-- "SUC.PRED :- PRED; PRED.SUC :- SUC; SUC :- PRED :- none", with s the successor and p the predecessor of x
 abbrev pub cut : ℕ → ℕ → ℕ → ℕ → List ℕ → List ℕ
 cut m x s p t = set (set (set (set t (m + s) p) p s) x 0) (m + x) 0
 
--- out: if SUC =/= none then ..
+-- "procedure out; if SUC ≠ none then"
 unfoldable pub unlinked : ℕ → ℕ → List ℕ → List ℕ
 unlinked m x t = if eqb (getD t x 0) 0 then t else cut m x (getD t x 0) (getD t (m + x) 0) t
 
--- PRED :- X; SUC :- X.SUC; SUC.PRED :- X.SUC :- this linkage, with y for X, s for X.SUC and x for this linkage
+-- "PRED :- X; SUC :- X.SUC; SUC.PRED :- X.SUC :- this linkage", with y for X, s for X.SUC and x for this linkage
 abbrev pub join : ℕ → ℕ → ℕ → ℕ → List ℕ → List ℕ
 join m x y s t = set (set (set (set t (m + x) y) x s) (m + s) x) y x
 
@@ -33,7 +33,7 @@ join m x y s t = set (set (set (set t (m + x) y) x s) (m + s) x) y x
 unfoldable pub linkedBehind : ℕ → ℕ → ℕ → List ℕ → List ℕ
 linkedBehind m x y t = join m x y (getD t y 0) t
 
--- SUC :- X; PRED :- X.PRED; PRED.SUC :- X.PRED :- this linkage, with y for X, p for X.PRED and x for this linkage
+-- "SUC :- X; PRED :- X.PRED; PRED.SUC :- X.PRED :- this linkage", with y for X, p for X.PRED and x for this linkage
 abbrev pub joinBefore : ℕ → ℕ → ℕ → ℕ → List ℕ → List ℕ
 joinBefore m x y p t = set (set (set (set t x y) (m + x) p) p x) (m + y) x
 
@@ -41,7 +41,7 @@ joinBefore m x y p t = set (set (set (set t x y) (m + x) p) p x) (m + y) x
 unfoldable pub linkedBefore : ℕ → ℕ → ℕ → List ℕ → List ℕ
 linkedBefore m x y t = joinBefore m x y (getD t (m + y) 0) t
 
--- SUC :- PRED :- this linkage, for a new head h
+-- "SUC := PRED := this linkage", for a new head h
 unfoldable pub selfLinked : ℕ → ℕ → List ℕ → List ℕ
 selfLinked m h t = set (set t h h) (m + h) h
 

@@ -151,7 +151,7 @@ turnsOn c bytes n (suc k) u tr =
 
 -- ---- a call
 
--- 8, then 1 and 2, then turns; "a line takes 16 bytes"
+-- 8, then 1 and 2, then turns; a line takes 16 bytes
 abbrev pub judgedRun : Verdict → Counts → List ℕ → RunTables → List ℕ → RanOn
 judgedRun Fine c bytes u tr = turnsOn c bytes 0 (length tr / 16) u tr
 judgedRun (Judged r) c bytes u tr = stoppedOn 0 (Refused r) u tr

@@ -101,6 +101,6 @@ accepted s = sized s && (startsTo s (recordsOf s) (countsOf s .processes) && rec
 abbrev pub answer : Bool → Header → Checked
 answer b h = if b then Accepted h else Refused Layout
 
--- "8: sheet breaks its layout, limits included"
+-- 8: "sheet breaks its layout, limits included"
 unfoldable pub checked : List ℕ → Checked
 checked s = answer (accepted s) (headerOf s)
