@@ -21,10 +21,7 @@ use Rattle.accumulator.specs.declared.Updated.the-variants.{To, Refused}
 use Rattle.accumulator.specs.Update.{updatedOf}
 use Rattle.accumulator.specs.Flat.{Changed, updatedIn}
 use Rattle.accumulator.specs.Triples.{Listed, updatedAt}
-
--- "Current is the process of the first notice; time is its time": the axis's head is at P + 1
-unfoldable pub timeOf : Counts → Tables → ℕ
-timeOf c t = getD (t .times) (getD (t .axis) (c .processes + 1) 0) 0
+use Rattle.model.specs.Now.{timeOf, half}
 
 -- ---- one accumulator
 
@@ -43,7 +40,7 @@ keeping (Judged r) x k = record { value = x; answer = Turned r }
 
 -- refusals 1 and 2, then accum at the model's time
 unfoldable pub accumAlone : Counts → Tables → Accumulator → ℤ → Kept
-accumAlone c t x d = keeping (judged c t) x (accumOne x (timeOf c t) d)
+accumAlone c t x d = keeping (judged c t) x (accumOne x (timeOf (half c) (t .axis) (t .times)) d)
 
 -- ---- a list
 
@@ -74,7 +71,7 @@ changing (Judged r) l s = record { words = l; answer = Turned r }
 -- accum on number k of n accumulators in a flat list of words
 unfoldable pub accumListed : Counts → Tables → ℕ → ℕ → ℤ → List ℤ → Changed
 accumListed c t n k d l =
-    changing (listJudged (listFine n (length l)) (numberFine n k) c t) l (updatedIn k (timeOf c t) d l)
+    changing (listJudged (listFine n (length l)) (numberFine n k) c t) l (updatedIn k (timeOf (half c) (t .axis) (t .times)) d l)
 
 abbrev pub listing : Verdict → List Accumulator → Listed → Listed
 listing Fine l s = s
@@ -83,7 +80,7 @@ listing (Judged r) l s = record { list = l; answer = Turned r }
 -- accum on number k of a list of accumulators
 unfoldable pub accumAt : Counts → Tables → ℕ → ℤ → List Accumulator → Listed
 accumAt c t k d l =
-    listing (listJudged (countFine (length l)) (numberFine (length l) k) c t) l (updatedAt k (timeOf c t) d l)
+    listing (listJudged (countFine (length l)) (numberFine (length l) k) c t) l (updatedAt k (timeOf (half c) (t .axis) (t .times)) d l)
 
 -- the element that number k picks of n, at the model's time; or why not
 abbrev pub picking : Verdict → ℕ → ℕ → Picked
@@ -91,4 +88,4 @@ picking Fine i time = record { refused = false; at = i; time = time; answer = Do
 picking (Judged r) i time = record { refused = true; at = 0; time = 0; answer = Turned r }
 
 unfoldable pub pickOf : Counts → Tables → ℕ → ℕ → Picked
-pickOf c t n k = picking (listJudged (countFine n) (numberFine n k) c t) (k - 1) (timeOf c t)
+pickOf c t n k = picking (listJudged (countFine n) (numberFine n k) c t) (k - 1) (timeOf (half c) (t .axis) (t .times))

@@ -28,22 +28,22 @@ unfoldable pub withWords : ℕ → Accumulator → List ℤ → List ℤ
 withWords i v l = set (set (set l i (v .a)) (i + 1) (v .b)) (i + 2) (v .c)
 
 -- "a .. list of .. accumulators is numbered from 1"
-abbrev pub placeOf : ℕ → ℕ
-placeOf k = 3 * (k - 1)
+abbrev pub wordPlace : ℕ → ℕ
+wordPlace k = 3 * (k - 1)
 
 -- a refused update changes nothing
-abbrev pub placed : Updated → ℕ → List ℤ → Changed
-placed (To v) i l = record { words = withWords i v l; answer = Done }
-placed (Refused q) i l = record { words = l; answer = Turned q }
+abbrev pub stored : Updated → ℕ → List ℤ → Changed
+stored (To v) i l = record { words = withWords i v l; answer = Done }
+stored (Refused q) i l = record { words = l; answer = Turned q }
 
 -- "accum on triple x", in a flat list
 unfoldable pub updatedIn : ℕ → ℕ → ℤ → List ℤ → Changed
-updatedIn k t d l = placed (updatedOf (wordsAt (placeOf k) l) t d) (placeOf k) l
+updatedIn k t d l = stored (updatedOf (wordsAt (wordPlace k) l) t d) (wordPlace k) l
 
 -- ---- what the code does, by the answer of the update
 
-module _ (k t : ℕ) (d : ℤ) (l : List ℤ) (i : ℕ) (at : i ≡ placeOf k) (x : Accumulator) (is : x ≡ wordsAt i l) (u : Updated) (e : u ≡ updatedOf x t d) where
-  same : updatedOf (wordsAt (placeOf k) l) t d ≡ u
+module _ (k t : ℕ) (d : ℤ) (l : List ℤ) (i : ℕ) (at : i ≡ wordPlace k) (x : Accumulator) (is : x ≡ wordsAt i l) (u : Updated) (e : u ≡ updatedOf x t d) where
+  same : updatedOf (wordsAt (wordPlace k) l) t d ≡ u
   same = sym (e ∙ ap (λ (y : Accumulator). updatedOf y t d) (is ∙ ap (λ (j : ℕ). wordsAt j l) at))
 
   pub in-to : (v : Accumulator) (m : List ℤ) → u ≡ To v → m ≡ withWords i v l → record { words = m; answer = Done } ≡ updatedIn k t d l
@@ -74,16 +74,16 @@ with-other i j v l o =
 -- whatever an update does, the list keeps its length, and the words of other accumulators stay as they are
 pub in-length : (k t : ℕ) (d : ℤ) (l : List ℤ) → length (updatedIn k t d l .words) ≡ length l
 unfolding updatedIn
-in-length k t d l = go (updatedOf (wordsAt (placeOf k) l) t d)
+in-length k t d l = go (updatedOf (wordsAt (wordPlace k) l) t d)
   where
-    go : (u : Updated) → length (placed u (placeOf k) l .words) ≡ length l
-    go (To v) = with-length (placeOf k) v l
+    go : (u : Updated) → length (stored u (wordPlace k) l .words) ≡ length l
+    go (To v) = with-length (wordPlace k) v l
     go (Refused q) = refl
 
-pub in-other : (k t : ℕ) (d : ℤ) (l : List ℤ) (j : ℕ) → (j < placeOf k ⊎ placeOf k + 2 < j) → getD (updatedIn k t d l .words) j (pos 0) ≡ getD l j (pos 0)
+pub in-other : (k t : ℕ) (d : ℤ) (l : List ℤ) (j : ℕ) → (j < wordPlace k ⊎ wordPlace k + 2 < j) → getD (updatedIn k t d l .words) j (pos 0) ≡ getD l j (pos 0)
 unfolding updatedIn
-in-other k t d l j o = go (updatedOf (wordsAt (placeOf k) l) t d)
+in-other k t d l j o = go (updatedOf (wordsAt (wordPlace k) l) t d)
   where
-    go : (u : Updated) → getD (placed u (placeOf k) l .words) j (pos 0) ≡ getD l j (pos 0)
-    go (To v) = with-other (placeOf k) j v l o
+    go : (u : Updated) → getD (stored u (wordPlace k) l .words) j (pos 0) ≡ getD l j (pos 0)
+    go (To v) = with-other (wordPlace k) j v l o
     go (Refused q) = refl

@@ -22,9 +22,10 @@ use Rattle.accumulator.specs.declared.Updated.{Updated}
 use Rattle.accumulator.specs.declared.Updated.the-variants.{To, Refused}
 use Rattle.accumulator.specs.Update.{updatedOf}
 use Rattle.accumulator.specs.Keeps.{zero-accumulator}
-use Rattle.accumulator.specs.Triples.{numbered, listed, updatedAt}
-use Rattle.accumulator.specs.Calls.{timeOf, keptOf, accumOne, countFine, numberFine, listJudged, listing, accumAt, picking, pickOf}
+use Rattle.accumulator.specs.Triples.{numbered, listAfter, updatedAt}
+use Rattle.accumulator.specs.Calls.{keptOf, accumOne, countFine, numberFine, listJudged, listing, accumAt, picking, pickOf}
 use Rattle.accumulator.specs.Promise.{Passed, list-passed, number-in, time-in}
+use Rattle.model.specs.Now.{half, timeOf}
 
 module _ (c : Counts) (t : Tables) (n k : ℕ) (list number : Bool) (v : Verdict)
     (a : list ≡ countFine n) (b : number ≡ numberFine n k) (e : v ≡ listJudged list number c t) where
@@ -36,9 +37,9 @@ module _ (c : Counts) (t : Tables) (n k : ℕ) (list number : Bool) (v : Verdict
 
   pub pick-turned : (r : Refusal) → v ≡ Judged r → record { refused = true; at = 0; time = 0; answer = Turned r } ≡ pickOf c t n k
   unfolding pickOf
-  pick-turned r q = sym (ap (λ (w : Verdict). picking w (k - 1) (timeOf c t)) (sym verdict ∙ q))
+  pick-turned r q = sym (ap (λ (w : Verdict). picking w (k - 1) (timeOf (half c) (t .axis) (t .times))) (sym verdict ∙ q))
 
-  pub pick-fine : (w m : ℕ) → v ≡ Fine → w ≡ k → m ≡ timeOf c t → record { refused = false; at = w - 1; time = m; answer = Done } ≡ pickOf c t n k
+  pub pick-fine : (w m : ℕ) → v ≡ Fine → w ≡ k → m ≡ timeOf (half c) (t .axis) (t .times) → record { refused = false; at = w - 1; time = m; answer = Done } ≡ pickOf c t n k
   unfolding pickOf
   pick-fine w m q f h = rw (sym verdict ∙ q, f, h)
 
@@ -50,29 +51,29 @@ pub record Found (c : Counts) (t : Tables) (l : List Accumulator) (k : ℕ) (p :
       → record { list = set l (p .at) (r .value); answer = r .answer } ≡ accumAt c t k d l
 
 kept-listed : (u : Updated) (k : ℕ) (l : List Accumulator)
-    → record { list = set l (k - 1) (keptOf u (numbered k l) .value); answer = keptOf u (numbered k l) .answer } ≡ listed u k l
+    → record { list = set l (k - 1) (keptOf u (numbered k l) .value); answer = keptOf u (numbered k l) .answer } ≡ listAfter u k l
 kept-listed (To v) k l = refl
 kept-listed (Refused q) k l = ap (λ (m : List Accumulator). record { list = m; answer = Turned q }) (set-getD l (k - 1) zero-accumulator)
 
 found-by : (c : Counts) (t : Tables) (l : List Accumulator) (k : ℕ) → listJudged (countFine (length l)) (numberFine (length l) k) c t ≡ Fine
-    → Found c t l k (record { refused = false; at = k - 1; time = timeOf c t; answer = Done })
+    → Found c t l k (record { refused = false; at = k - 1; time = timeOf (half c) (t .axis) (t .times); answer = Done })
 unfolding accumAt updatedAt accumOne
 found-by c t l k e =
     let p = list-passed _ _ c t e in
     let m = number-in (length l) k (p .number-is) in
     record {
       inside = omega (arith, m);
-      time-within = time-in c t (timeOf c t) (p .tables-are) refl;
+      time-within = time-in c t (timeOf (half c) (t .axis) (t .times)) (p .tables-are) refl;
       after = λ d r q.
           ap (λ (s : Kept). record { list = set l (k - 1) (s .value); answer = s .answer }) q
-          ∙ kept-listed (updatedOf (numbered k l) (timeOf c t) d) k l
-          ∙ sym (ap (λ (w : Verdict). listing w l (listed (updatedOf (numbered k l) (timeOf c t) d) k l)) e);
+          ∙ kept-listed (updatedOf (numbered k l) (timeOf (half c) (t .axis) (t .times)) d) k l
+          ∙ sym (ap (λ (w : Verdict). listing w l (listAfter (updatedOf (numbered k l) (timeOf (half c) (t .axis) (t .times)) d) k l)) e);
     }
 
 module _ (c : Counts) (t : Tables) (l : List Accumulator) (k : ℕ) (p : Picked) (e : p ≡ pickOf c t (length l) k) where
-  picked-as : (v : Verdict) → listJudged (countFine (length l)) (numberFine (length l) k) c t ≡ v → p ≡ picking v (k - 1) (timeOf c t)
+  picked-as : (v : Verdict) → listJudged (countFine (length l)) (numberFine (length l) k) c t ≡ v → p ≡ picking v (k - 1) (timeOf (half c) (t .axis) (t .times))
   unfolding pickOf
-  picked-as v q = e ∙ ap (λ (w : Verdict). picking w (k - 1) (timeOf c t)) q
+  picked-as v q = e ∙ ap (λ (w : Verdict). picking w (k - 1) (timeOf (half c) (t .axis) (t .times))) q
 
   pub pick-found : p .refused ≡ false → Found c t l k p
   pick-found f = go (listJudged (countFine (length l)) (numberFine (length l) k) c t) refl
@@ -86,8 +87,8 @@ module _ (c : Counts) (t : Tables) (l : List Accumulator) (k : ℕ) (p : Picked)
   pick-not d f = go (listJudged (countFine (length l)) (numberFine (length l) k) c t) refl
     where
       go : (v : Verdict) → listJudged (countFine (length l)) (numberFine (length l) k) c t ≡ v
-          → record { list = l; answer = p .answer } ≡ listing (listJudged (countFine (length l)) (numberFine (length l) k) c t) l (updatedAt k (timeOf c t) d l)
+          → record { list = l; answer = p .answer } ≡ listing (listJudged (countFine (length l)) (numberFine (length l) k) c t) l (updatedAt k (timeOf (half c) (t .axis) (t .times)) d l)
       go Fine q = clash (sym (ap (λ (s : Picked). s .refused) (picked-as Fine q)) ∙ f)
       go (Judged r) q =
           ap (λ (s : Picked). record { list = l; answer = s .answer }) (picked-as (Judged r) q)
-          ∙ sym (ap (λ (w : Verdict). listing w l (updatedAt k (timeOf c t) d l)) q)
+          ∙ sym (ap (λ (w : Verdict). listing w l (updatedAt k (timeOf (half c) (t .axis) (t .times)) d l)) q)

@@ -25,7 +25,8 @@ use Rattle.accumulator.specs.declared.Updated.{Updated}
 use Rattle.accumulator.specs.declared.Updated.the-variants.{To, Refused}
 use Rattle.accumulator.specs.Update.{updatedOf}
 use Rattle.accumulator.specs.Flat.{Changed, updatedIn}
-use Rattle.accumulator.specs.Calls.{timeOf, keptOf, accumOne, keeping, accumAlone, countFine, listFine, numberFine, numberJudged, listJudged, changing, accumListed}
+use Rattle.accumulator.specs.Calls.{keptOf, accumOne, keeping, accumAlone, countFine, listFine, numberFine, numberJudged, listJudged, changing, accumListed}
+use Rattle.model.specs.Now.{firstOf, half, timeOf}
 
 -- ---- one accumulator
 
@@ -40,8 +41,8 @@ module _ (x : Accumulator) (t : ℕ) (d : ℤ) (u : Updated) (e : u ≡ updatedO
 
 -- the place of the first notice, read behind the axis's head
 module _ (c : Counts) (t : Tables) (r : Ready c t) (p i : ℕ) (e : p ≡ c .processes) (f : i ≡ getD (t .axis) (p + 1) 0) where
-  first : i ≡ getD (t .axis) (c .processes + 1) 0
-  first = f ∙ ap (λ (n : ℕ). getD (t .axis) (n + 1) 0) e
+  first : i ≡ firstOf (half c) (t .axis)
+  first = f ∙ ap (λ (n : ℕ). getD (t .axis) n 0) (omega arith)
 
   pub first-at : i < length (t .times)
   first-at = omega (arith, first, r .first-in, r .lengths .times-is)
@@ -49,24 +50,22 @@ module _ (c : Counts) (t : Tables) (r : Ready c t) (p i : ℕ) (e : p ≡ c .pro
   pub first-fits : i * 8 < 2 ^ 64
   first-fits = omega (arith, first, r .first-in, r .allowed .processes-in)
 
-  pub time-is : getD (t .times) i 0 ≡ timeOf c t
-  unfolding timeOf
+  pub time-is : getD (t .times) i 0 ≡ timeOf (half c) (t .axis) (t .times)
   time-is = ap (λ (n : ℕ). getD (t .times) n 0) first
 
 -- the time of a judged model is within the limit
-pub time-in : (c : Counts) (t : Tables) (n : ℕ) → judged c t ≡ Fine → n ≡ timeOf c t → n ≤ limit
-unfolding timeOf
-time-in c t n f e = omega (arith, judged-ready c t f .times-in (getD (t .axis) (c .processes + 1) 0))
+pub time-in : (c : Counts) (t : Tables) (n : ℕ) → judged c t ≡ Fine → n ≡ timeOf (half c) (t .axis) (t .times) → n ≤ limit
+time-in c t n f e = omega (arith, judged-ready c t f .times-in (firstOf (half c) (t .axis)))
 
 module _ (c : Counts) (t : Tables) (x : Accumulator) (d : ℤ) (v : Verdict) (e : v ≡ judged c t) where
   pub alone-turned : (r : Refusal) → v ≡ Judged r → record { value = x; answer = Turned r } ≡ accumAlone c t x d
   unfolding accumAlone
-  alone-turned r q = sym (ap (λ (w : Verdict). keeping w x (accumOne x (timeOf c t) d)) (sym e ∙ q))
+  alone-turned r q = sym (ap (λ (w : Verdict). keeping w x (accumOne x (timeOf (half c) (t .axis) (t .times)) d)) (sym e ∙ q))
 
-  pub alone-fine : (n : ℕ) (k : Kept) → v ≡ Fine → n ≡ timeOf c t → k ≡ accumOne x n d → k ≡ accumAlone c t x d
+  pub alone-fine : (n : ℕ) (k : Kept) → v ≡ Fine → n ≡ timeOf (half c) (t .axis) (t .times) → k ≡ accumOne x n d → k ≡ accumAlone c t x d
   unfolding accumAlone
   alone-fine n k q m p =
-      p ∙ ap (λ (j : ℕ). accumOne x j d) m ∙ sym (ap (λ (w : Verdict). keeping w x (accumOne x (timeOf c t) d)) (sym e ∙ q))
+      p ∙ ap (λ (j : ℕ). accumOne x j d) m ∙ sym (ap (λ (w : Verdict). keeping w x (accumOne x (timeOf (half c) (t .axis) (t .times)) d)) (sym e ∙ q))
 
 -- ---- the list, the tables, the number
 
@@ -126,7 +125,7 @@ module _ (c : Counts) (t : Tables) (n k : ℕ) (l : List ℤ) (list number : Boo
   pub listed-passed : v ≡ Fine → Passed (listFine n (length l)) (numberFine n k) c t
   listed-passed q = list-passed _ _ c t (sym verdict ∙ q)
 
-  pub listed-in : (m : ℕ) → v ≡ Fine → m ≡ timeOf c t → (1 ≤ k) × (3 * k ≤ length l) × (m ≤ limit)
+  pub listed-in : (m : ℕ) → v ≡ Fine → m ≡ timeOf (half c) (t .axis) (t .times) → (1 ≤ k) × (3 * k ≤ length l) × (m ≤ limit)
   listed-in m q h =
       let p = listed-passed q in
       let j = number-in n k (p .number-is) in
@@ -134,9 +133,9 @@ module _ (c : Counts) (t : Tables) (n k : ℕ) (l : List ℤ) (list number : Boo
 
   pub listed-turned : (d : ℤ) (r : Refusal) → v ≡ Judged r → record { words = l; answer = Turned r } ≡ accumListed c t n k d l
   unfolding accumListed
-  listed-turned d r q = sym (ap (λ (w : Verdict). changing w l (updatedIn k (timeOf c t) d l)) (sym verdict ∙ q))
+  listed-turned d r q = sym (ap (λ (w : Verdict). changing w l (updatedIn k (timeOf (half c) (t .axis) (t .times)) d l)) (sym verdict ∙ q))
 
-  pub listed-fine : (d : ℤ) (m : ℕ) (s : Changed) → v ≡ Fine → m ≡ timeOf c t → s ≡ updatedIn k m d l → s ≡ accumListed c t n k d l
+  pub listed-fine : (d : ℤ) (m : ℕ) (s : Changed) → v ≡ Fine → m ≡ timeOf (half c) (t .axis) (t .times) → s ≡ updatedIn k m d l → s ≡ accumListed c t n k d l
   unfolding accumListed
   listed-fine d m s q h p =
-      p ∙ ap (λ (j : ℕ). updatedIn k j d l) h ∙ sym (ap (λ (w : Verdict). changing w l (updatedIn k (timeOf c t) d l)) (sym verdict ∙ q))
+      p ∙ ap (λ (j : ℕ). updatedIn k j d l) h ∙ sym (ap (λ (w : Verdict). changing w l (updatedIn k (timeOf (half c) (t .axis) (t .times)) d l)) (sym verdict ∙ q))

@@ -22,8 +22,9 @@ use Rattle.accumulator.specs.declared.Updated.the-variants.{To, Refused}
 use Rattle.accumulator.specs.Update.{updatedOf, Required}
 use Rattle.accumulator.specs.Keeps.{zero-accumulator, zeros-required, required-later, accepted-required, refused-rate}
 use Rattle.accumulator.specs.Flat.{updatedIn}
-use Rattle.accumulator.specs.Triples.{flat, flattened, flat-length, flat-updated, numbered, listed, updatedAt}
-use Rattle.accumulator.specs.Calls.{timeOf, countFine, listFine, numberFine, listJudged, changing, listing, accumListed, accumAt}
+use Rattle.accumulator.specs.Triples.{flat, flattened, flat-length, flat-updated, numbered, listAfter, updatedAt}
+use Rattle.accumulator.specs.Calls.{countFine, listFine, numberFine, listJudged, changing, listing, accumListed, accumAt}
+use Rattle.model.specs.Now.{half, timeOf}
 
 -- ---- the flat list and the list of structs
 
@@ -40,11 +41,11 @@ pub listed-flat : (c : Counts) (t : Tables) (k : ℕ) (d : ℤ) (l : List Accumu
     → accumListed c t (length l) k d (flat l) ≡ flattened (accumAt c t k d l)
 unfolding accumListed accumAt
 listed-flat c t k d l =
-    ap (λ (b : Bool). changing (listJudged b (numberFine (length l) k) c t) (flat l) (updatedIn k (timeOf c t) d (flat l))) (flat-fine l)
+    ap (λ (b : Bool). changing (listJudged b (numberFine (length l) k) c t) (flat l) (updatedIn k (timeOf (half c) (t .axis) (t .times)) d (flat l))) (flat-fine l)
     ∙ go (listJudged (countFine (length l)) (numberFine (length l) k) c t)
   where
-    go : (v : Verdict) → changing v (flat l) (updatedIn k (timeOf c t) d (flat l)) ≡ flattened (listing v l (updatedAt k (timeOf c t) d l))
-    go Fine = flat-updated k (timeOf c t) d l
+    go : (v : Verdict) → changing v (flat l) (updatedIn k (timeOf (half c) (t .axis) (t .times)) d (flat l)) ≡ flattened (listing v l (updatedAt k (timeOf (half c) (t .axis) (t .times)) d l))
+    go Fine = flat-updated k (timeOf (half c) (t .axis) (t .times)) d l
     go (Judged r) = refl
 
 -- ---- a run's accumulators
@@ -78,7 +79,7 @@ each-kept k t u d l b a = go (updatedOf (numbered k l) u d) refl
     later : Each l u
     later i = required-later (getD l i zero-accumulator) t u b (a i)
 
-    go : (w : Updated) → updatedOf (numbered k l) u d ≡ w → Each (listed w k l .list) u
+    go : (w : Updated) → updatedOf (numbered k l) u d ≡ w → Each (listAfter w k l .list) u
     go (To v) e = set-each l (k - 1) v u later (accepted-required (numbered k l) u d v e)
     go (Refused q) e = later
 
@@ -88,7 +89,7 @@ pub each-refused : (k t : ℕ) (d : ℤ) (l : List Accumulator) → Each l t →
 unfolding updatedAt
 each-refused k t d l a = go (updatedOf (numbered k l) t d) refl
   where
-    go : (w : Updated) → updatedOf (numbered k l) t d ≡ w → listed w k l .answer ≡ Turned NotAsRequired → 1000000 < natAbs (numbered k l .c +ℤ d)
+    go : (w : Updated) → updatedOf (numbered k l) t d ≡ w → listAfter w k l .answer ≡ Turned NotAsRequired → 1000000 < natAbs (numbered k l .c +ℤ d)
     go (To v) e q = let z : false ≡ true = cc in clash z
     go (Refused r) e q =
         let z : r ≡ NotAsRequired = cc in

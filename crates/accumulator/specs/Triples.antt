@@ -12,7 +12,7 @@ use Rattle.accumulator.specs.declared.Updated.{Updated}
 use Rattle.accumulator.specs.declared.Updated.the-variants.{To, Refused}
 use Rattle.accumulator.specs.Update.{updatedOf}
 use Rattle.accumulator.specs.Keeps.{zero-accumulator}
-use Rattle.accumulator.specs.Flat.{Changed, wordsAt, withWords, placeOf, placed, updatedIn}
+use Rattle.accumulator.specs.Flat.{Changed, wordsAt, withWords, wordPlace, stored, updatedIn}
 
 -- the words of a list of accumulators: a, b and c of each
 abbrev pub flat : List Accumulator → List ℤ
@@ -27,13 +27,13 @@ pub record Listed : Type 0 where
 abbrev pub numbered : ℕ → List Accumulator → Accumulator
 numbered k l = getD l (k - 1) zero-accumulator
 
-abbrev pub listed : Updated → ℕ → List Accumulator → Listed
-listed (To v) k l = record { list = set l (k - 1) v; answer = Done }
-listed (Refused q) k l = record { list = l; answer = Turned q }
+abbrev pub listAfter : Updated → ℕ → List Accumulator → Listed
+listAfter (To v) k l = record { list = set l (k - 1) v; answer = Done }
+listAfter (Refused q) k l = record { list = l; answer = Turned q }
 
 -- "13 is accum on triple x": number k replaced by its update, or refusal 7
 unfoldable pub updatedAt : ℕ → ℕ → ℤ → List Accumulator → Listed
-updatedAt k t d l = listed (updatedOf (numbered k l) t d) k l
+updatedAt k t d l = listAfter (updatedOf (numbered k l) t d) k l
 
 abbrev pub flattened : Listed → Changed
 flattened s = record { words = flat (s .list); answer = s .answer }
@@ -70,8 +70,8 @@ flat-with (x ∷ l) (suc n) v = rw (three-one n, three-two n, three n) (ap (λ (
 pub flat-updated : (k t : ℕ) (d : ℤ) (l : List Accumulator) → updatedIn k t d (flat l) ≡ flattened (updatedAt k t d l)
 unfolding updatedIn updatedAt
 flat-updated k t d l =
-    ap (λ (x : Accumulator). placed (updatedOf x t d) (placeOf k) (flat l)) (flat-at l (k - 1)) ∙ go (updatedOf (numbered k l) t d)
+    ap (λ (x : Accumulator). stored (updatedOf x t d) (wordPlace k) (flat l)) (flat-at l (k - 1)) ∙ go (updatedOf (numbered k l) t d)
   where
-    go : (u : Updated) → placed u (placeOf k) (flat l) ≡ flattened (listed u k l)
+    go : (u : Updated) → stored u (wordPlace k) (flat l) ≡ flattened (listAfter u k l)
     go (To v) = ap (λ (w : List ℤ). record { words = w; answer = Done }) (flat-with l (k - 1) v)
     go (Refused q) = refl

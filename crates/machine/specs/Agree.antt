@@ -22,9 +22,9 @@ use Rattle.accumulator.specs.declared.Updated.{Updated}
 use Rattle.accumulator.specs.declared.Updated.the-variants.{To, Refused as NotUpdated}
 use Rattle.accumulator.specs.Update.{updatedOf}
 use Rattle.accumulator.specs.Flat.{Changed, updatedIn}
-use Rattle.accumulator.specs.Triples.{flat, numbered, listed, updatedAt, flat-updated}
+use Rattle.accumulator.specs.Triples.{flat, numbered, listAfter, updatedAt, flat-updated}
 use Rattle.machine.specs.Machine.{Machine}
-use Rattle.machine.specs.Calls.{SetCall, out, follow, precede, into, clear, ListCall, onSet, hold, passivate, wait, cancel, activate, ifEmpty, finish, Call, onList, accum, kindsFine, setsAfter, listsAfter, changing, storing, perform}
+use Rattle.machine.specs.Calls.{SetCall, out, follow, precede, into, clear, ListCall, onSet, hold, passivate, wait, cancel, activate, ifEmpty, finish, Call, onList, accum, kindsFine, setsAfter, listsAfter, lifted, storing, perform}
 use Rattle.machine.specs.OnTables.{linksAfter, tablesAfter, Carried, carriedOut}
 use Rattle.machine.specs.Reading.{time-at}
 
@@ -84,7 +84,7 @@ module _ (c : Counts) (m : Machine) (t : Tables) (w : Sized c t) (s : Spells c (
   perform-follows (onList k) = go (listsAfter c k (m .lists)) (lists-follow c (m .lists) t w s k)
     where
       go : (r : Result Lists) → Follows c t r (tablesAfter c k t)
-          → FollowsRun c t words (changing m r) (record { tables = tablesAfter c k t .tables; words = words; answer = tablesAfter c k t .answer })
+          → FollowsRun c t words (lifted m r) (record { tables = tablesAfter c k t .tables; words = words; answer = tablesAfter c k t .answer })
       go (refused r) a = (a .0, a .1, refl)
       go (done l) a = (a .0, a .1, refl)
   perform-follows (accum k d) =
@@ -94,6 +94,6 @@ module _ (c : Counts) (m : Machine) (t : Tables) (w : Sized c t) (s : Spells c (
     where
       go : (u : Updated)
           → FollowsRun c t words (storing m k u)
-          (record { tables = t; words = flat (listed u k (m .triples) .list); answer = listed u k (m .triples) .answer })
+          (record { tables = t; words = flat (listAfter u k (m .triples) .list); answer = listAfter u k (m .triples) .answer })
       go (To v) = (refl, s, refl)
       go (NotUpdated q) = (refl, refl, refl)

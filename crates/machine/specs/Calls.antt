@@ -73,9 +73,9 @@ listsAfter c finish l = plain.finish c l
 
 -- ---- on the machine
 
-abbrev pub changing : Machine → Result Lists → Result Machine
-changing m (refused r) = refused r
-changing m (done l) = done (withLists m l)
+abbrev pub lifted : Machine → Result Lists → Result Machine
+lifted m (refused r) = refused r
+lifted m (done l) = done (withLists m l)
 
 abbrev pub storing : Machine → ℕ → Updated → Result Machine
 storing m k (To v) = done (withTriples m (set (m .triples) (k - 1) v))
@@ -83,5 +83,5 @@ storing m k (Refused r) = refused r
 
 -- "13 is accum on triple x"
 unfoldable pub perform : Counts → Call → Machine → Result Machine
-perform c (onList k) m = changing m (listsAfter c k (m .lists))
+perform c (onList k) m = lifted m (listsAfter c k (m .lists))
 perform c (accum k d) m = storing m k (updatedOf (numbered k (m .triples)) (time (m .lists)) d)

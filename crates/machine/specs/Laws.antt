@@ -22,13 +22,13 @@ use Rattle.machine.specs.Steps.{recordOf}
 use Rattle.machine.specs.Run.{uncut, state}
 use Rattle.machine.specs.History.{Stepwise, Ties, placing, noticesAt}
 use Rattle.machine.specs.HistoryLaw.{ties-of}
-use Rattle.machine.specs.Kept.{InRange, Kept}
+use Rattle.machine.specs.Invariant.{InRange, Invariant}
 use Rattle.machine.specs.GoesFirst.{GoesFirst, goes-first}
 use Rattle.machine.specs.TurnLaws.{Going, turn-going, turn-stepwise, turn-forward}
 
 -- after n steps
 pub record Laws (s : Sheet) (n : ℕ) : Type 0 where
-  pub kept : Kept s (state s n)
+  pub kept : Invariant s (state s n)
   pub forward : time (state s n .lists) ≤ time (state s (suc n) .lists)
   pub ties : Ties s n
   pub goes-first : GoesFirst s n
@@ -85,7 +85,7 @@ module _ (s : Sheet) (r : InRange s) where
   forward n = turn-forward s r (state s n) (going n)
 
   -- lists that well-formed tables spell are as Kept says
-  pub going-kept : (m : Machine) → Going s m → Kept s m
+  pub going-kept : (m : Machine) → Going s m → Invariant s m
   going-kept m g =
       let c = s .counts in
       let t = g .spelled .0 in

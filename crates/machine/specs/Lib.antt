@@ -11,7 +11,7 @@ pub mod CallLaws
 pub mod OnTables
 pub mod Reading
 pub mod Agree
-pub mod Kept
+pub mod Invariant
 pub mod TurnLaws
 pub mod GoesFirst
 pub mod Laws

@@ -11,23 +11,17 @@ use Rattle.model.specs.declared.answer.Answer.{Answer}
 use Rattle.model.specs.declared.answer.Answer.the-variants.{Done}
 use Rattle.model.specs.Tables.{Tables, After}
 use Rattle.sets.specs.Procedures as sets
-use Rattle.sets.specs.Calls.{Linked, telling, outStep, followStep, precedeStep, intoStep, clearStep, onLinks}
+use Rattle.sets.specs.Calls.{Linked, toldIf, outStep, followStep, precedeStep, intoStep, clearStep, onLinks}
 use Rattle.sequencing.specs.Calls.{holdStep, passivateStep, cancelStep, timedStep, finishStep, waitStep, onSqs, onMarks, onSets}
 use Rattle.accumulator.specs.Flat.{updatedIn}
 use Rattle.machine.specs.Calls.{SetCall, out, follow, precede, into, clear, ListCall, onSet, hold, passivate, wait, cancel, activate, ifEmpty, finish, Call, onList, accum}
+use Rattle.model.specs.Now.{timeOf, firstOf, half}
 
 -- ---- reading
 
--- current's place in the axis: the head's successor
-abbrev pub placeNow : Counts → List ℕ → ℕ
-placeNow c axis = getD axis (c .processes + 1) 0
-
--- current, time, and the first member of head h
+-- current, and the first member of head h
 abbrev pub currentAt : Counts → List ℕ → ℕ
-currentAt c axis = linkageAt c (placeNow c axis)
-
-abbrev pub timeAt : Counts → List ℕ → List ℕ → ℕ
-timeAt c axis times = getD times (placeNow c axis) 0
+currentAt c axis = linkageAt c (firstOf (half c) axis)
 
 abbrev pub firstAt : Counts → List ℕ → ℕ → ℕ
 firstAt c links h = sets.sucOf (c .heads) h links
@@ -37,7 +31,7 @@ unfoldable pub operandWith : Counts → List ℕ → ℕ → ℕ → ℕ
 operandWith c links f v = if ltb v 65536 then v else if eqb v 65536 then linkageAt c f else firstAt c links (v - 65536)
 
 abbrev pub operandAt : Counts → List ℕ → List ℕ → ℕ → ℕ
-operandAt c links axis v = operandWith c links (placeNow c axis) v
+operandAt c links axis v = operandWith c links (firstOf (half c) axis) v
 
 -- ---- calling
 
@@ -55,7 +49,7 @@ tablesAfter c passivate t = onSqs (λ m a. passivateStep c a) t
 tablesAfter c (wait y) t = onSets (λ k a. waitStep c y k a) t
 tablesAfter c (cancel x) t = onSqs (λ m a. cancelStep c x a) t
 tablesAfter c (activate again k x y z) t = onSqs (λ m a. timedStep c again k x y z m a) t
-tablesAfter c (ifEmpty x) t = record { tables = t; answer = telling (isHead c x) Done }
+tablesAfter c (ifEmpty x) t = record { tables = t; answer = toldIf (isHead c x) Done }
 tablesAfter c finish t = onMarks (λ k a. finishStep c k a) t
 
 -- the model's tables and the accumulators' words after a call, and its answer
@@ -66,4 +60,4 @@ pub record Carried : Type 0 where
 
 unfoldable pub carriedOut : Counts → Call → Tables → List ℤ → Carried
 carriedOut c (onList k) t w = let a = tablesAfter c k t in record { tables = a .tables; words = w; answer = a .answer }
-carriedOut c (accum k d) t w = let u = updatedIn k (timeAt c (t .axis) (t .times)) d w in record { tables = t; words = u .words; answer = u .answer }
+carriedOut c (accum k d) t w = let u = updatedIn k (timeOf (half c) (t .axis) (t .times)) d w in record { tables = t; words = u .words; answer = u .answer }

@@ -22,13 +22,13 @@ use Rattle.sets.specs.Laws.{set-head}
 use Rattle.sets.specs.QueryLaws.{or-link, or-none, empty-says}
 use Rattle.sets.specs.Meaning.{asked-is, head-of}
 use Rattle.sequencing.specs.Plain.{current, time}
-use Rattle.sequencing.specs.Calls.{half, sqsOf, currentTold, timeTold}
-use Rattle.sequencing.specs.Procedures.{firstOf, timeOf}
+use Rattle.sequencing.specs.Calls.{sqsOf, currentTold, timeTold}
 use Rattle.sequencing.specs.QueryMeaning.{current-means, time-means}
 use Rattle.sheet.specs.Accepted.{isOperand}
 use Rattle.sheet.specs.Fields.{operand-high}
 use Rattle.machine.specs.Steps.{firstIn, operandOf}
-use Rattle.machine.specs.OnTables.{placeNow, currentAt, timeAt, firstAt, operandWith, operandAt}
+use Rattle.machine.specs.OnTables.{currentAt, firstAt, operandWith, operandAt}
+use Rattle.model.specs.Now.{timeOf, firstOf, half}
 
 -- the successor of a head is its first member, none where it has none
 first-of : (m H : ℕ) (sets : List (List ℕ)) (t : List ℕ) → SpellsSets m H sets t → (h : ℕ) → Head m (setHead H) h → procedures.sucOf H h t ≡ firstIn (membersOf sets h)
@@ -39,21 +39,18 @@ first-of m H sets t s h a = go (membersOf sets h) (s .spelled .rings .ring h a) 
     go (z ∷ l) c f = ap (procedures.linkOr H) (sym (suc-at m t h (a .within)) ∙ c .0 .next) ∙ or-link H z (f z (inl refl))
 
 module _ (c : Counts) (l : Lists) (t : Tables) (w : Sized c t) (s : Spells c l t) where
-  place : placeNow c (t .axis) ≡ firstOf (half c) (sqsOf t)
-  place = ap (λ (i : ℕ). getD (t .axis) i 0) (omega arith)
-
   pub current-at : currentAt c (t .axis) ≡ current l
   unfolding currentTold
   current-at =
-      let e : Linkage (linkageAt c (firstOf (half c) (sqsOf t))) ≡ Linkage (current l) =
+      let e : Linkage (linkageAt c (firstOf (half c) (t .axis))) ≡ Linkage (current l) =
       sym (asked-is c l t w s (λ k. currentTold c (sqsOf k))) ∙ current-means c l t w s in
-      ap (linkageAt c) place ∙ cc
+      cc
 
-  pub time-at : timeAt c (t .axis) (t .times) ≡ time l
+  pub time-at : timeOf (half c) (t .axis) (t .times) ≡ time l
   unfolding timeTold
   time-at =
-      let e : Number (timeOf (half c) (sqsOf t)) ≡ Number (time l) = sym (asked-is c l t w s (λ k. timeTold c (sqsOf k))) ∙ time-means c l t w s in
-      ap (λ (i : ℕ). getD (t .times) i 0) place ∙ cc
+      let e : Number (timeOf (half c) (t .axis) (t .times)) ≡ Number (time l) = sym (asked-is c l t w s (λ k. timeTold c (sqsOf k))) ∙ time-means c l t w s in
+      cc
 
   pub first-at : (h : ℕ) → 1 ≤ h → h ≤ c .heads → firstAt c (t .links) h ≡ firstIn (membersOf (l .sets) h)
   first-at h a b = first-of (total c + 1) (c .heads) (l .sets) (t .links) (s .links) h (set-head (total c + 1) (c .heads) h a b (omega arith))

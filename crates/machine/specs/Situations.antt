@@ -22,7 +22,7 @@ use Rattle.sets.specs.Procedures.{followOn, followed, precedeOn, preceded}
 use Rattle.sets.specs.Calls.{followStep, intoStep}
 use Rattle.sequencing.specs.Plain.{Result, refused, done, dueFor, placed, noEffect, timed}
 use Rattle.sequencing.specs.Plain as plain
-use Rattle.sequencing.specs.Procedures.{seekFrom, found, dropOn, putOn, heldAt, held, passivated, cancelled, vain, dueAt, placeFor, scheduled, activated}
+use Rattle.sequencing.specs.Procedures.{seekFrom, found, dropOn, putOn, heldAt, held, passivated, cancelled, vain, dueAt, placeFor, putByClause, activated}
 use Rattle.sequencing.specs.Calls.{holdStep, timedStep}
 use Rattle.machine.specs.Machine.{Machine, fresh}
 use Rattle.machine.specs.Calls.{follow, into, ListCall, onSet, hold, activate, onList, listsAfter, perform}
@@ -141,7 +141,7 @@ situations =
     ∷ []
 
 unfoldable pub met : Situation → Bool
-unfolding plain.hold dueFor placed noEffect timed freshHeads freshAxis freshTables selfLinked unlinked linkedBehind linkedBefore followOn followed precedeOn preceded followStep intoStep seekFrom found dropOn putOn heldAt held passivated cancelled vain dueAt placeFor scheduled activated holdStep timedStep fresh listsAfter perform tablesAfter
+unfolding plain.hold dueFor placed noEffect timed freshHeads freshAxis freshTables selfLinked unlinked linkedBehind linkedBefore followOn followed precedeOn preceded followStep intoStep seekFrom found dropOn putOn heldAt held passivated cancelled vain dueAt placeFor putByClause activated holdStep timedStep fresh listsAfter perform tablesAfter
 met s =
     machineMeets (machineAfter (s .calls) (done (fresh (record { counts = c; starts = []; records = [] })))) (s .want)
     && tablesMeet (modelAfter (s .calls) (record { tables = freshTables c; answer = Done })) (s .want)

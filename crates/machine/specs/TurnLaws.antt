@@ -23,7 +23,7 @@ use Rattle.accumulator.specs.declared.Updated.{Updated}
 use Rattle.accumulator.specs.declared.Updated.the-variants.{To, Refused as NotUpdated}
 use Rattle.accumulator.specs.Update.{updatedOf}
 use Rattle.accumulator.specs.Keeps.{zero-accumulator, required-later}
-use Rattle.accumulator.specs.Triples.{numbered, listed, updatedAt}
+use Rattle.accumulator.specs.Triples.{numbered, listAfter, updatedAt}
 use Rattle.accumulator.specs.Runs.{Each, each-kept}
 use Rattle.sheet.specs.declared.header.Header.{Header}
 use Rattle.sheet.specs.declared.records.Record.{Record}
@@ -32,7 +32,7 @@ use Rattle.sheet.specs.Fields.{Ranged}
 use Rattle.machine.specs.declared.End.{End}
 use Rattle.machine.specs.declared.End.the-variants.{Finished, Refused}
 use Rattle.machine.specs.Machine.{Machine, withPosition}
-use Rattle.machine.specs.Calls.{Call, onList, accum, listsAfter, changing, storing, perform}
+use Rattle.machine.specs.Calls.{Call, onList, accum, listsAfter, lifted, storing, perform}
 use Rattle.machine.specs.Steps.{recordOf, recordNow, nextOf, callNow, nextNow, lineNow, Turn, ended, stepped, moving, step}
 use Rattle.machine.specs.Run.{atEnd, turn, onward}
 use Rattle.machine.specs.History.{Stepwise, placing, placingOf, listPlacing, ifStepped}
@@ -40,7 +40,7 @@ use Rattle.machine.specs.StepLaws.{stepwise-same}
 use Rattle.machine.specs.CallLaws.{Notices, call-notices, call-forward}
 use Rattle.machine.specs.OnTables.{tablesAfter}
 use Rattle.machine.specs.Agree.{lists-follow}
-use Rattle.machine.specs.Kept.{headerIs, InRange}
+use Rattle.machine.specs.Invariant.{headerIs, InRange}
 
 -- the lists are those of some well-formed tables
 abbrev pub Spelled : Counts → Lists → Type 0
@@ -66,7 +66,7 @@ pub perform-sizes : (c : Counts) (k : Call) (m : Machine) → Then (λ n. (n .po
 unfolding perform
 perform-sizes c (onList k) m = go (listsAfter c k (m .lists))
   where
-    go : (r : Result Lists) → Then (λ n. (n .positions ≡ m .positions) × (length (n .triples) ≡ length (m .triples))) (changing m r)
+    go : (r : Result Lists) → Then (λ n. (n .positions ≡ m .positions) × (length (n .triples) ≡ length (m .triples))) (lifted m r)
     go (refused r) = tt
     go (done l) = (refl, refl)
 perform-sizes c (accum k d) m = go (updatedOf (numbered k (m .triples)) (time (m .lists)) d)
@@ -89,7 +89,7 @@ module _ (c : Counts) (a : Allowed c) (m : Machine) (t : Tables) (s : Spells c (
       (call-forward c l (f .0) (f .1) (f .2) (s .in-order) (notice-each c l t s) named k)
     where
       go : (r : Result Lists) → Follows c t r (tablesAfter c k t) → Notices (listPlacing k l) (l .notices) r → Later (time l) r
-          → Then (Performed c (onList k) m) (changing m r)
+          → Then (Performed c (onList k) m) (lifted m r)
       go (refused r) f g h = tt
       go (done j) f g h =
           record {
@@ -103,7 +103,7 @@ module _ (c : Counts) (a : Allowed c) (m : Machine) (t : Tables) (s : Spells c (
   perform-laws (accum k d) =
       go (updatedOf (numbered k (m .triples)) (time l) d) (each-kept k (time l) (time l) d (m .triples) (omega arith) q)
     where
-      go : (u : Updated) → Each (listed u k (m .triples) .list) (time l) → Then (Performed c (accum k d) m) (storing m k u)
+      go : (u : Updated) → Each (listAfter u k (m .triples) .list) (time l) → Then (Performed c (accum k d) m) (storing m k u)
       go (To v) g =
           record {
             spelled = (t, s);

@@ -1,6 +1,6 @@
 -- What the core functions need of tables that were judged fine: ranges, and a first notice that stands behind its head.
 use Prim.Native.Nat.{ℕ, _+_, _-_, _<_, _≤_}
-use mathlib.Core.Path.{_≡_, refl, subst}
+use mathlib.Core.Path.{_≡_, refl, ap, _∙_, subst}
 use mathlib.Core.Logic.{inl}
 use mathlib.Core.List.{List, [], _∷_}
 use native.Mathlib.Omega.{arith}
@@ -16,6 +16,8 @@ use Rattle.model.specs.declared.verdict.Verdict.the-variants.{Fine}
 use Rattle.counts.specs.Counts.{Allowed, total, limit}
 use Rattle.model.specs.Notices.{places}
 use Rattle.model.specs.Tables.{Tables, Lengths, Lists, Sized, setHead, axisHead, membersOf, Spells}
+use Rattle.model.specs.Now.{half, firstOf}
+use Rattle.model.specs.Now.{half, firstOf}
 use Rattle.model.specs.Judge.{judged}
 use Rattle.model.specs.AxisJudged.{axis-head, axis-event}
 use Rattle.model.specs.Formed.{axis-spelled}
@@ -27,18 +29,19 @@ pub record Ready (c : Counts) (t : Tables) : Type 0 where
   pub links-sound : Sound (total c + 1) (t .links)
   pub axis-sound : Sound (c .processes + 2) (t .axis)
   pub times-in : (y : ℕ) → getD (t .times) y 0 ≤ limit
-  pub first-some : 0 < getD (t .axis) (c .processes + 1) 0
-  pub first-in : getD (t .axis) (c .processes + 1) 0 ≤ c .processes
+  pub first-some : 0 < firstOf (half c) (t .axis)
+  pub first-in : firstOf (half c) (t .axis) ≤ c .processes
   -- the first notice stands behind the axis's own head
-  pub first-led : getD (t .axis) (c .processes + 2 + getD (t .axis) (c .processes + 1) 0) 0 ≡ c .processes + 1
+  pub first-led : getD (t .axis) (half c + firstOf (half c) (t .axis)) 0 ≡ half c - 1
 
 pub formed-ready : (c : Counts) (l : Lists) (t : Tables) → Sized c t → Spells c l t → Ready c t
 formed-ready c l t z w =
     let s = axis-spelled c l t w in
     let f = first (places c (l .notices)) (s .some) (s .ring .rings .ring (c .processes + 1) (axis-head (c .processes)))
     (axis-event (c .processes) (t .axis) (places c (l .notices)) (s .ring)) in
-    let at : sucs (c .processes + 2) (t .axis) (c .processes + 1) ≡ getD (t .axis) (c .processes + 1) 0 =
-    suc-at (c .processes + 2) (t .axis) (c .processes + 1) (omega arith) in
+    let head : c .processes + 1 ≡ half c - 1 = omega arith in
+    let at : sucs (half c) (t .axis) (c .processes + 1) ≡ firstOf (half c) (t .axis) =
+    suc-at (half c) (t .axis) (c .processes + 1) (omega arith) ∙ ap (λ (i : ℕ). getD (t .axis) i 0) head in
     record {
       allowed = z .allowed;
       lengths = z .lengths;
@@ -48,10 +51,10 @@ formed-ready c l t z w =
           below (c .processes) y
           (λ b. omega (arith, List·getD-eq-default (t .times) 0 {n = y} (omega (arith, z .lengths .times-is))))
           (λ b. inside y (places c (l .notices)) (λ k. s .limits y k) (λ out. omega (arith, s .idle-times y b out)));
-      first-some = omega (arith, f);
-      first-in = omega (arith, f);
+      first-some = omega (arith, f, at);
+      first-in = omega (arith, f, at);
       first-led =
-          subst (λ (i : ℕ). pres (c .processes + 2) (t .axis) i ≡ c .processes + 1) at
+          subst (λ (i : ℕ). pres (half c) (t .axis) i ≡ half c - 1) at
           (forth
           (sucs (c .processes + 2) (t .axis))
           (pres (c .processes + 2) (t .axis))
@@ -60,7 +63,8 @@ formed-ready c l t z w =
           (c .processes + 1)
           (c .processes + 1)
           (s .ring .rings .ring (c .processes + 1) (axis-head (c .processes)))
-          (inl refl));
+          (inl refl)
+          ∙ head);
     }
   where
     first : (k : List ℕ) → 0 < length k → Chain (sucs (c .processes + 2) (t .axis)) (pres (c .processes + 2) (t .axis)) (c .processes + 1) k (c .processes + 1)

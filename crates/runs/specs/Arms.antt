@@ -15,22 +15,23 @@ use Rattle.model.specs.declared.answer.Answer.{Answer}
 use Rattle.model.specs.declared.answer.Answer.the-variants.{Done}
 use Rattle.model.specs.Tables.{Tables, After}
 use Rattle.sets.specs.Procedures.{emptyOf}
-use Rattle.sets.specs.Calls.{Linked, telling, outStep, followStep, precedeStep, intoStep, clearStep}
+use Rattle.sets.specs.Calls.{Linked, toldIf, outStep, followStep, precedeStep, intoStep, clearStep}
 use Rattle.sets.specs.Promise.{Moved}
 use Rattle.sequencing.specs.Procedures.{Sqs, dueAt, activated}
 use Rattle.sequencing.specs.Promise.{sqs, Answers}
 use Rattle.sequencing.specs.StepPromise.{FinishMade, WaitMade}
 use Rattle.sequencing.specs.ReadPromise.{on-sqs, on-marks, on-sets}
-use Rattle.sequencing.specs.Calls.{half, holdStep, passivateStep, cancelStep, timedStep, finishStep, waitStep}
+use Rattle.sequencing.specs.Calls.{holdStep, passivateStep, cancelStep, timedStep, finishStep, waitStep}
 use Rattle.accumulator.specs.Flat.{Changed, updatedIn}
 use Rattle.sheet.specs.declared.records.Record.{Record}
 use Rattle.machine.specs.Calls.{SetCall, out, follow, precede, into, clear, ListCall, onSet, hold, passivate, wait, cancel, activate, ifEmpty, finish, Call, onList, accum}
-use Rattle.machine.specs.OnTables.{timeAt, operandWith, linksAfter, tablesAfter, Carried, carriedOut}
+use Rattle.machine.specs.OnTables.{operandWith, linksAfter, tablesAfter, Carried, carriedOut}
 use Rattle.runs.specs.declared.Effect.{Effect}
 use Rattle.runs.specs.declared.Effect.the-variants.{Stays, Jumps, Moves}
 use Rattle.runs.specs.Run.{resolved, callDue}
 use Rattle.runs.specs.Performed.{listEffect, callEffect, effectOf, unlessRefused, branched, performed}
 use Rattle.runs.specs.Which as which
+use Rattle.model.specs.Now.{timeOf, half}
 
 direct : (c : Counts) (x y : ℕ) (t : ℤ) (marks : List ℕ) (s : Sqs) → timedStep c false 0 x 0 (pos 0) marks s ≡ timedStep c false 0 x y t marks s
 unfolding timedStep activated dueAt
@@ -163,7 +164,7 @@ module _ (c : Counts) (q : Record) (f : ℕ) (links axis times marks : List ℕ)
           list-by 0 e (λ z. omega arith) r v finish (which.call-0 c links f q e) _
           (on-marks c links axis times marks a u ms r (λ n s. finishStep c n s) k) ev
 
-    pub arm-13 : q .operation ≡ 13 → q .x ≤ 64 → (now : ℕ) → now ≡ timeAt c axis times → (u : List ℤ) → record { words = u; answer = r } ≡ updatedIn (q .x) now (q .t) w
+    pub arm-13 : q .operation ≡ 13 → q .x ≤ 64 → (now : ℕ) → now ≡ timeOf (half c) axis times → (u : List ℤ) → record { words = u; answer = r } ≡ updatedIn (q .x) now (q .t) w
         → v ≡ unlessRefused r Stays → record { tables = t; words = u; effect = v } ≡ performed c q f t w
     unfolding carriedOut
     arm-13 e l now i u m ev =
@@ -176,4 +177,4 @@ module _ (c : Counts) (q : Record) (f : ℕ) (links axis times marks : List ℕ)
   arm-12 e v ev =
       by (onList (ifEmpty x)) (which.call-12 c links f q e) (if emptyOf x links then Jumps (q .y) else Stays)
       (rw (eq-eqb (q .operation) 12 e))
-      (record { tables = t; words = w; answer = telling (isHead c x) Done }) refl v ev
+      (record { tables = t; words = w; answer = toldIf (isHead c x) Done }) refl v ev

@@ -21,7 +21,7 @@ use Rattle.sheet.specs.declared.records.Record.{Record}
 use Rattle.sheet.specs.Sheet.{recordOffset}
 use Rattle.machine.specs.declared.End.the-variants.{Refused as Ended}
 use Rattle.machine.specs.Calls.{Call}
-use Rattle.machine.specs.OnTables.{placeNow, carriedOut}
+use Rattle.machine.specs.OnTables.{carriedOut}
 use Rattle.runs.specs.declared.Effect.{Effect}
 use Rattle.runs.specs.declared.Effect.the-variants.{Stays, Jumps, Moves, Refused, Apart}
 use Rattle.runs.specs.declared.Pause.{Pause}
@@ -36,6 +36,7 @@ use Rattle.runs.specs.StepIs.{Went}
 use Rattle.runs.specs.Turning.{Turning, turning-then}
 use Rattle.runs.specs.Running.{Here, here-at, ends, turned-down, goes-on}
 use Rattle.runs.specs.Paused.{leftBy, isFull, isDue, Paused}
+use Rattle.model.specs.Now.{half, firstOf}
 
 -- ---- by what the call came to
 
@@ -119,7 +120,7 @@ module _ (c : Counts) (bytes : List ℕ) (room n : ℕ) (whole : RanOn) (u₀ : 
     pub due-room : s .lines < room
     due-room = omega (arith, p .due g .0, same-room)
 
-    module _ (f r : ℕ) (ef : f ≡ placeNow c (u′ .model .axis)) (er : r ≡ getD (u′ .positions) f 0) where
+    module _ (f r : ℕ) (ef : f ≡ firstOf (half c) (u′ .model .axis)) (er : r ≡ getD (u′ .positions) f 0) where
       at : (time : ℕ) → time ≡ getD (u′ .model .times) f 0 → Here c u′ f time r
       at time et = here-at c u′ f time r ef et er
 

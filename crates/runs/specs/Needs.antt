@@ -13,7 +13,7 @@ use Rattle.model.specs.Ready.{Ready}
 use Rattle.sheet.specs.Sheet.{recordFrom}
 use Rattle.sheet.specs.Accepted.{isOperand}
 use Rattle.sheet.specs.Fields.{Ranged}
-use Rattle.machine.specs.OnTables.{placeNow, timeAt}
+use Rattle.model.specs.Now.{half, timeOf, firstOf}
 
 -- to resolve an operand: counts within their limits, a sound table of links, and current at a place of the axis
 pub record Resolvable (c : Counts) (links : List ℕ) (f : ℕ) : Type 0 where
@@ -33,10 +33,10 @@ pub record Callable (c : Counts) (bytes : List ℕ) (i f : ℕ) (t : Tables) : T
   pub inside : i + 24 ≤ length bytes
   pub records : ℕ
   pub ranged : Ranged (record { counts = c; records = records }) (recordFrom bytes i)
-  pub place-is : f ≡ placeNow c (t .axis)
+  pub place-is : f ≡ firstOf (half c) (t .axis)
 
 -- to make one that uses the time or an accumulator: also current's time, and all accumulators
 pub record Performable (c : Counts) (bytes : List ℕ) (i f time : ℕ) (t : Tables) (words : List ℤ) : Type 0 where
   pub callable : Callable c bytes i f t
-  pub time-is : time ≡ timeAt c (t .axis) (t .times)
+  pub time-is : time ≡ timeOf (half c) (t .axis) (t .times)
   pub words-all : length words ≡ 192

@@ -13,7 +13,7 @@ use Rattle.model.specs.declared.verdict.Verdict.{Verdict}
 use Rattle.model.specs.declared.verdict.Verdict.the-variants.{Fine, Refused as Judged}
 use Rattle.model.specs.Tables.{Tables}
 use Rattle.sets.specs.Procedures.{emptyOf}
-use Rattle.sets.specs.Calls.{telling}
+use Rattle.sets.specs.Calls.{toldIf}
 use Rattle.sheet.specs.declared.records.Record.{Record}
 use Rattle.machine.specs.Calls.{ListCall, onSet, hold, passivate, wait, cancel, activate, ifEmpty, finish, Call, onList, accum}
 use Rattle.machine.specs.OnTables.{operandWith, carriedOut}
@@ -63,7 +63,7 @@ unlessRefused (NotDone r) e = Refused r
 abbrev pub branched : Counts → Record → ℕ → List ℕ → Effect
 branched c q f links =
     let x = operandWith c links f (q .x) in
-    unlessRefused (telling (isHead c x) Done) (if emptyOf x links then Jumps (q .y) else Stays)
+    unlessRefused (toldIf (isHead c x) Done) (if emptyOf x links then Jumps (q .y) else Stays)
 
 pub record Performed : Type 0 where
   pub tables : Tables

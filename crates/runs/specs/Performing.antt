@@ -9,7 +9,6 @@ use lib.ListN.{length, getD}
 use Rattle.counts.specs.declared.Counts.{Counts}
 use Rattle.counts.specs.Counts.{limit}
 use Rattle.model.specs.Tables.{Tables}
-use Rattle.sequencing.specs.Calls.{half}
 use Rattle.sequencing.specs.Promise.{Noticed, Judged, Takeable, ready-judged, ready-takeable}
 use Rattle.sheet.specs.declared.records.Record.{Record}
 use Rattle.sheet.specs.Sheet.{recordOffset, recordFrom}
@@ -18,6 +17,7 @@ use Rattle.runs.specs.Performed.{Performed, performed}
 use Rattle.runs.specs.Tried.{tried}
 use Rattle.runs.specs.Needs.{Resolvable, Readable, Callable, Performable}
 use Rattle.runs.specs.Reads.{got-record}
+use Rattle.model.specs.Now.{half}
 
 module _ (c : Counts) (bytes : List ℕ) (i f : ℕ) (t : Tables) (p : Callable c bytes i f t) where
   resolvable : Resolvable c (t .links) f
@@ -53,13 +53,10 @@ module _ (c : Counts) (bytes : List ℕ) (i f time : ℕ) (t : Tables) (words : 
   pub noticed : Noticed (half c) f time (t .axis) (t .times)
   noticed =
       record {
-        place = record { is = p .callable .place-is ∙ ap (λ (n : ℕ). getD (t .axis) n 0) head; within = omega (arith, p .callable .place-is, p .callable .ready .first-in) };
+        place = record { is = p .callable .place-is; within = omega (arith, p .callable .place-is, p .callable .ready .first-in) };
         read = record { is = p .time-is ∙ ap (λ (n : ℕ). getD (t .times) n 0) (sym (p .callable .place-is)) };
         within = time-in;
       }
-    where
-      head : c .processes + 1 ≡ c .processes + 2 - 1
-      head = omega arith
 
   module _ (op : ℕ) (is : op ≡ recordFrom bytes i .operation) (e : op ≡ 13) where
     pub numbered : (1 ≤ recordFrom bytes i .x) × (3 * recordFrom bytes i .x ≤ length words) × (time ≤ limit)

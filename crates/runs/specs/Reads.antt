@@ -17,24 +17,25 @@ use Rattle.sheet.specs.declared.records.Record.{Record}
 use Rattle.sheet.specs.Sheet.{recordOffset, recordFrom, recordWith}
 use Rattle.sheet.specs.Accepted.{isOperand}
 use Rattle.sheet.specs.Fields.{operand-kinds}
-use Rattle.machine.specs.OnTables.{placeNow, operandWith}
+use Rattle.machine.specs.OnTables.{operandWith}
 use Rattle.runs.specs.Run.{endRecord, recordGot, endsNow}
 use Rattle.runs.specs.declared.Effect.the-variants.{Stays, Jumps, Refused}
 use Rattle.runs.specs.Performed.{branched}
 use Rattle.runs.specs.Needs.{Resolvable}
+use Rattle.model.specs.Now.{half, firstOf}
 
 and-false : (a : Bool) → (a && false) ≡ false
 and-false true = refl
 and-false false = refl
 
-module _ (c : Counts) (axis positions : List ℕ) (f : ℕ) (is : f ≡ placeNow c axis) where
+module _ (c : Counts) (axis positions : List ℕ) (f : ℕ) (is : f ≡ firstOf (half c) axis) where
   pub ends-other : f ≢ 1 → false ≡ endsNow c axis positions
   unfolding endsNow
-  ends-other n = rw (ne-eqb (placeNow c axis) 1 (λ e. n (is ∙ e)))
+  ends-other n = rw (ne-eqb (firstOf (half c) axis) 1 (λ e. n (is ∙ e)))
 
   pub ends-main : f ≡ 1 → eqb (getD positions 1 0) 0 ≡ endsNow c axis positions
   unfolding endsNow
-  ends-main e = rw (eq-eqb (placeNow c axis) 1 (sym is ∙ e))
+  ends-main e = rw (eq-eqb (firstOf (half c) axis) 1 (sym is ∙ e))
 
   -- main's position is current's, where main is current
   pub ends-at : (r : ℕ) (b : Bool) → r ≡ getD positions f 0 → b ≡ (eqb r 0 && eqb f 1) → b ≡ endsNow c axis positions

@@ -25,10 +25,11 @@ use Rattle.trace.specs.Lines.{lineBytes}
 use Rattle.machine.specs.Machine.{Machine}
 use Rattle.machine.specs.Steps.{operandOf, callOf, nextOf, recordOf, recordNow, Line, lineNow}
 use Rattle.machine.specs.Run.{atEnd}
-use Rattle.machine.specs.OnTables.{placeNow, operandAt}
+use Rattle.machine.specs.OnTables.{operandAt}
 use Rattle.machine.specs.Reading.{current-at, time-at, operand-plain, operand-at, empty-at}
 use Rattle.runs.specs.Run.{RunTables, resolved, callDue, recordAtNow, lineIn, endsNow}
 use Rattle.runs.specs.Standing.{Stands, Standing, sized, ready, its-range}
+use Rattle.model.specs.Now.{half, firstOf}
 
 -- the bytes of a line
 abbrev pub bytesOf : Line → List ℕ
@@ -45,7 +46,7 @@ module _ (bytes : List ℕ) (ok : accepted bytes ≡ true) (m : Machine) (u : Ru
   l = m .lists
 
   abbrev f : ℕ
-  f = placeNow (countsOf bytes) (u .model .axis)
+  f = firstOf (half (countsOf bytes)) (u .model .axis)
 
   pub stood : Standing c bytes u
   stood = record { ok = ok; counts = refl; machine = m; stands = g }
@@ -97,8 +98,8 @@ module _ (bytes : List ℕ) (ok : accepted bytes ≡ true) (m : Machine) (u : Ru
     abbrev q : Record
     q = recordWith (countsOf bytes .processes) bytes r
 
-    pub listed : recordOf s (recordNow s m) ≡ q
-    listed = ap (recordOf s) (sym is) ∙ record-listed bytes _ r (some r n) most
+    pub listAfter : recordOf s (recordNow s m) ≡ q
+    listAfter = ap (recordOf s) (sym is) ∙ record-listed bytes _ r (some r n) most
       where
         some : (r : ℕ) → r ≢ 0 → 1 ≤ r
         some r n = omega arith
@@ -131,7 +132,7 @@ module _ (bytes : List ℕ) (ok : accepted bytes ≡ true) (m : Machine) (u : Ru
         small : (v R : ℕ) → v ≤ R → R ≤ 2000 → v < 65536
         small v R a b = omega arith
 
-    pub some-call : callDue (resolved c (u .model .links) (placeNow c (u .model .axis)) q) ≡ callOf q (operandOf l (q .x)) (operandOf l (q .y))
+    pub some-call : callDue (resolved c (u .model .links) (firstOf (half c) (u .model .axis)) q) ≡ callOf q (operandOf l (q .x)) (operandOf l (q .y))
     unfolding callDue resolved callOf
     some-call =
         rw (ne-eqb (q .operation) 0 (λ z. none (q .operation) (ranged .operation-some) z))
@@ -142,7 +143,7 @@ module _ (bytes : List ℕ) (ok : accepted bytes ≡ true) (m : Machine) (u : Ru
 
     -- where 12 is accepted its x is a head, so that both find it empty or neither
     pub some-next : (q .operation ≡ 12 → isHead c (operandOf l (q .x)) ≡ true)
-        → resolved c (u .model .links) (placeNow c (u .model .axis)) q .next ≡ nextOf q (noLinks (membersOf (l .sets) (operandOf l (q .x))))
+        → resolved c (u .model .links) (firstOf (half c) (u .model .axis)) q .next ≡ nextOf q (noLinks (membersOf (l .sets) (operandOf l (q .x))))
     unfolding resolved nextOf
     some-next h =
         decide (q .operation) 12

@@ -29,8 +29,9 @@ use Rattle.machine.specs.declared.End.{End}
 use Rattle.machine.specs.declared.End.the-variants.{Finished, Full, Refused}
 use Rattle.machine.specs.Calls.{Call, onList, finish}
 use Rattle.machine.specs.Steps.{callOf, nextOf}
-use Rattle.machine.specs.OnTables.{placeNow, timeAt, operandWith, Carried, carriedOut}
+use Rattle.machine.specs.OnTables.{operandWith, Carried, carriedOut}
 use Rattle.runs.specs.declared.Ran.{Ran}
+use Rattle.model.specs.Now.{half, timeOf, firstOf}
 
 -- a run's lent tables: the model's four, the positions ("P + 1 words of 32 bits, place 0 zero"), and the words of 64 accumulators
 pub record RunTables : Type 0 where
@@ -78,7 +79,7 @@ resolved c links f q =
     }
 
 abbrev pub dueNow : Counts → List ℕ → List ℕ → List ℕ → ℕ → Record
-dueNow c bytes links axis r = resolved c links (placeNow c axis) (recordGot (c .processes) bytes r)
+dueNow c bytes links axis r = resolved c links (firstOf (half c) axis) (recordGot (c .processes) bytes r)
 
 unfoldable pub callDue : Record → Call
 callDue d = if eqb (d .operation) 0 then onList finish else callOf d (d .x) (d .y)
@@ -109,25 +110,25 @@ moved (Off r) a positions f tr i line =
 
 -- current's place, its record's number, the record, and the call
 abbrev pub recordAtNow : Counts → RunTables → ℕ
-recordAtNow c u = getD (u .positions) (placeNow c (u .model .axis)) 0
+recordAtNow c u = getD (u .positions) (firstOf (half c) (u .model .axis)) 0
 
 abbrev pub dueIn : Counts → List ℕ → RunTables → Record
 dueIn c bytes u = dueNow c bytes (u .model .links) (u .model .axis) (recordAtNow c u)
 
 abbrev pub lineIn : Counts → RunTables → List ℕ
-lineIn c u = lineBytes (timeAt c (u .model .axis) (u .model .times)) (linkageAt c (placeNow c (u .model .axis))) (recordAtNow c u)
+lineIn c u = lineBytes (timeOf (half c) (u .model .axis) (u .model .times)) (linkageAt c (firstOf (half c) (u .model .axis))) (recordAtNow c u)
 
 unfoldable pub stepOn : Counts → List ℕ → ℕ → RunTables → List ℕ → Stepped
 stepOn c bytes i u tr =
     let d = dueIn c bytes u in
     let a = carriedOut c (callDue d) (u .model) (u .words) in
-    moved (turnedOf (a .answer) (d .next)) a (u .positions) (placeNow c (u .model .axis)) tr i (lineIn c u)
+    moved (turnedOf (a .answer) (d .next)) a (u .positions) (firstOf (half c) (u .model .axis)) tr i (lineIn c u)
 
 -- ---- turns
 
 -- "main current at position 0"; main's place is 1
 unfoldable pub endsNow : Counts → List ℕ → List ℕ → Bool
-endsNow c axis positions = eqb (placeNow c axis) 1 && eqb (getD positions 1 0) 0
+endsNow c axis positions = eqb (firstOf (half c) axis) 1 && eqb (getD positions 1 0) 0
 
 -- what a run call leaves
 pub record RanOn : Type 0 where

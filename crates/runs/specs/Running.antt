@@ -11,7 +11,6 @@ use Rattle.counts.specs.declared.Counts.{Counts}
 use Rattle.counts.specs.declared.Refusal.{Refusal}
 use Rattle.sheet.specs.Sheet.{recordOffset}
 use Rattle.machine.specs.declared.End.the-variants.{Refused}
-use Rattle.machine.specs.OnTables.{placeNow, timeAt}
 use Rattle.runs.specs.declared.Effect.the-variants.{Refused as NotDone}
 use Rattle.runs.specs.Run.{RunTables, On, Off, Stepped, recordGot, recordAtNow, stepOn, endsNow, RanOn, stoppedOn}
 use Rattle.runs.specs.Performed.{Performed, performed, turnedBy}
@@ -20,14 +19,15 @@ use Rattle.runs.specs.Reads.{ends-at}
 use Rattle.runs.specs.Standing.{its-step}
 use Rattle.runs.specs.StepIs.{Went, stayed, step-off, step-on, step-stays}
 use Rattle.runs.specs.Turning.{Turning, turning-on, turning-at, step-refused}
+use Rattle.model.specs.Now.{half, timeOf, firstOf}
 
 pub record Here (c : Counts) (u : RunTables) (f time r : ℕ) : Type 0 where
-  pub place-is : f ≡ placeNow c (u .model .axis)
-  pub time-is : time ≡ timeAt c (u .model .axis) (u .model .times)
+  pub place-is : f ≡ firstOf (half c) (u .model .axis)
+  pub time-is : time ≡ timeOf (half c) (u .model .axis) (u .model .times)
   pub record-is : r ≡ recordAtNow c u
 
 -- read at the place that is current's
-pub here-at : (c : Counts) (u : RunTables) (f time r : ℕ) → f ≡ placeNow c (u .model .axis) → time ≡ getD (u .model .times) f 0 → r ≡ getD (u .positions) f 0
+pub here-at : (c : Counts) (u : RunTables) (f time r : ℕ) → f ≡ firstOf (half c) (u .model .axis) → time ≡ getD (u .model .times) f 0 → r ≡ getD (u .positions) f 0
     → Here c u f time r
 here-at c u f time r e et er =
     record {
@@ -37,18 +37,18 @@ here-at c u f time r e et er =
     }
 
 -- the tables with the process at place f at record r
-abbrev pub placed : RunTables → ℕ → ℕ → RunTables
-placed u f r = record { model = u .model; positions = set (u .positions) f r; words = u .words }
+abbrev pub positioned : RunTables → ℕ → ℕ → RunTables
+positioned u f r = record { model = u .model; positions = set (u .positions) f r; words = u .words }
 
 -- a position that the table has
-pub as-placed : (u : RunTables) (f r : ℕ) → r ≡ getD (u .positions) f 0 → u ≡ placed u f r
-as-placed u f r e =
+pub as-positioned : (u : RunTables) (f r : ℕ) → r ≡ getD (u .positions) f 0 → u ≡ positioned u f r
+as-positioned u f r e =
     ap (λ (l : List ℕ). record { model = u .model; positions = l; words = u .words })
     (sym (ap (set (u .positions) f) e ∙ set-getD (u .positions) f 0))
 
-pub here-placed : (c : Counts) (u : RunTables) (f time r : ℕ) → f ≡ placeNow c (u .model .axis) → time ≡ getD (u .model .times) f 0 → r ≡ getD (u .positions) f 0
-    → Here c (placed u f r) f time r
-here-placed c u f time r ef et er = subst (λ (v : RunTables). Here c v f time r) (as-placed u f r er) (here-at c u f time r ef et er)
+pub here-positioned : (c : Counts) (u : RunTables) (f time r : ℕ) → f ≡ firstOf (half c) (u .model .axis) → time ≡ getD (u .model .times) f 0 → r ≡ getD (u .positions) f 0
+    → Here c (positioned u f r) f time r
+here-positioned c u f time r ef et er = subst (λ (v : RunTables). Here c v f time r) (as-positioned u f r er) (here-at c u f time r ef et er)
 
 module _ (c : Counts) (bytes : List ℕ) (room n : ℕ) (whole : RanOn) (u₀ : RunTables) (tr₀ : List ℕ) (u : RunTables) (tr : List ℕ) (t : Turning c bytes room n whole u₀ tr₀ u tr)
     (f time r : ℕ) (at : Here c u f time r) where
@@ -89,9 +89,9 @@ module _ (c : Counts) (bytes : List ℕ) (room n : ℕ) (whole : RanOn) (u₀ : 
       pub stays-here : stayed (p .effect) ≡ true → Here c u′ f time next
       stays-here s =
           let k = step-stays c bytes (16 * n) u tr f (at .place-is) r (at .record-is) time (at .time-is) p ep s in
-          let now : f ≡ placeNow c (p .tables .axis) = at .place-is ∙ ap (placeNow c) (sym (k .0)) in
+          let now : f ≡ firstOf (half c) (p .tables .axis) = at .place-is ∙ ap (firstOf (half c)) (sym (k .0)) in
           record {
             place-is = now;
-            time-is = at .time-is ∙ ap (timeAt c (u .model .axis)) (sym (k .1)) ∙ ap (λ (l : List ℕ). timeAt c l (p .tables .times)) (sym (k .0));
+            time-is = at .time-is ∙ ap (timeOf (half c) (u .model .axis)) (sym (k .1)) ∙ ap (λ (l : List ℕ). timeOf (half c) l (p .tables .times)) (sym (k .0));
             record-is = moved-on ∙ ap (λ (j : ℕ). getD ps j 0) now;
           }

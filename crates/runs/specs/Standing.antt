@@ -18,9 +18,9 @@ use Rattle.sheet.specs.Accepted.{accepted}
 use Rattle.sheet.specs.Fields.{Ranged}
 use Rattle.sheet.specs.Ranges.{allowed-counts, record-inside, record-in}
 use Rattle.machine.specs.Machine.{Machine}
-use Rattle.machine.specs.OnTables.{placeNow, timeAt}
 use Rattle.runs.specs.Run.{RunTables, recordAtNow}
 use Rattle.runs.specs.Needs.{Callable, Performable}
+use Rattle.model.specs.Now.{half, timeOf, firstOf}
 
 -- these tables are the machine's: its lists spelled, "place 0 zero" and its positions, its triples' words
 pub record Stands (c : Counts) (R : ℕ) (m : Machine) (u : RunTables) : Type 0 where
@@ -62,7 +62,7 @@ module _ (c : Counts) (bytes : List ℕ) (u : RunTables) (s : Standing c bytes u
 
   -- the record that current is at
   pub now-in : recordAtNow c u ≤ recordsOf bytes
-  now-in = go (placeNow c (u .model .axis))
+  now-in = go (firstOf (half c) (u .model .axis))
     where
       at : (f : ℕ) → getD (0 ∷ s .machine .positions) f 0 ≤ recordsOf bytes
       at zero = omega arith
@@ -85,7 +85,7 @@ module _ (c : Counts) (bytes : List ℕ) (u : RunTables) (s : Standing c bytes u
 
   -- ---- at current's place
 
-  module _ (f : ℕ) (is : f ≡ placeNow c (u .model .axis)) where
+  module _ (f : ℕ) (is : f ≡ firstOf (half c) (u .model .axis)) where
     pub place-in : f ≤ c .processes
     place-in = omega (arith, ready .first-in)
 
@@ -95,7 +95,7 @@ module _ (c : Counts) (bytes : List ℕ) (u : RunTables) (s : Standing c bytes u
     pub in-times : f < length (u .model .times)
     in-times = omega (arith, sized .lengths .times-is, place-in)
 
-    pub time-is : getD (u .model .times) f 0 ≡ timeAt c (u .model .axis) (u .model .times)
+    pub time-is : getD (u .model .times) f 0 ≡ timeOf (half c) (u .model .axis) (u .model .times)
     time-is = ap (λ (n : ℕ). getD (u .model .times) n 0) is
 
     pub number-in : c .heads + f < 4294967296
@@ -117,6 +117,6 @@ module _ (c : Counts) (bytes : List ℕ) (u : RunTables) (s : Standing c bytes u
             place-is = is;
           }
 
-      pub its-step : (time : ℕ) → time ≡ timeAt c (u .model .axis) (u .model .times) → r ≢ 0
+      pub its-step : (time : ℕ) → time ≡ timeOf (half c) (u .model .axis) (u .model .times) → r ≢ 0
           → Performable c bytes (recordOffset (c .processes) r) f time (u .model) (u .words)
       its-step time et n = record { callable = its-call n; time-is = et; words-all = words-length }

@@ -24,13 +24,14 @@ use Rattle.trace.specs.Lines.{put}
 use Rattle.machine.specs.Machine.{Machine, withPosition}
 use Rattle.machine.specs.Calls.{ifEmpty, Call, onList, listsAfter, perform}
 use Rattle.machine.specs.Steps.{operandOf, callOf, nextOf, recordOf, recordNow, itsCall, itsNext, callNow, nextNow, lineNow}
-use Rattle.machine.specs.OnTables.{placeNow, Carried, carriedOut}
+use Rattle.machine.specs.OnTables.{Carried, carriedOut}
 use Rattle.machine.specs.Agree.{FollowsRun, perform-follows}
 use Rattle.machine.specs.TurnLaws.{Then, perform-sizes, next-in, set-in}
 use Rattle.machine.specs.Laws.{accepted-range}
 use Rattle.runs.specs.Run.{RunTables, Turned, On, Off, recordGot, resolved, callDue, turnedOf, Stepped, moved, recordAtNow, dueIn, lineIn, stepOn}
 use Rattle.runs.specs.Standing.{Stands, ready, now-in}
-use Rattle.runs.specs.Refine.{bytesOf, stood, fit, current-is, record-is, line-is, listed, some-call, some-next}
+use Rattle.runs.specs.Refine.{bytesOf, stood, fit, current-is, record-is, line-is, listAfter, some-call, some-next}
+use Rattle.model.specs.Now.{half, firstOf}
 
 -- an accepted 12 has a head
 head-done : (c : Counts) (x : ℕ) (m k : Machine) → perform c (onList (ifEmpty x)) m ≡ done k → isHead c x ≡ true
@@ -63,7 +64,7 @@ module _ (bytes : List ℕ) (ok : accepted bytes ≡ true) (m : Machine) (u : Ru
       (λ z. rw (z, sym (ap (λ (n : ℕ). eqb n 0) at) ∙ z) refl)
       (λ z. rw (z, sym (ap (λ (n : ℕ). eqb n 0) at) ∙ z)
       (some-call bytes ok m u g r at (eqb-false r 0 z) most
-      ∙ ap (λ (q : Record). itsCall q l) (sym (listed bytes ok m u g r at (eqb-false r 0 z) most))))
+      ∙ ap (λ (q : Record). itsCall q l) (sym (listAfter bytes ok m u g r at (eqb-false r 0 z) most))))
 
   next-is : (k : Machine) → perform c (callNow s m) m ≡ done k → dueIn c bytes u .next ≡ nextNow s m
   unfolding recordGot callNow nextNow resolved nextOf callOf
@@ -73,7 +74,7 @@ module _ (bytes : List ℕ) (ok : accepted bytes ≡ true) (m : Machine) (u : Ru
       (λ z.
       let n = eqb-false r 0 z in
       let q : Record = recordWith (c .processes) bytes r in
-      let same : recordOf s (recordNow s m) ≡ q = listed bytes ok m u g r at n most in
+      let same : recordOf s (recordNow s m) ≡ q = listAfter bytes ok m u g r at n most in
       let made : perform c (itsCall q l) m ≡ done k =
       ap (λ (p : Record). perform c (itsCall p l) m) (sym same) ∙ (rw (sym (ap (λ (j : ℕ). eqb j 0) at) ∙ z) at e) in
       rw (z, sym (ap (λ (n : ℕ). eqb n 0) at) ∙ z)
@@ -92,7 +93,7 @@ module _ (bytes : List ℕ) (ok : accepted bytes ≡ true) (m : Machine) (u : Ru
       (o .turned ≡ On (dueIn c bytes u .next)) × Stands c (recordsOf bytes) (withPosition c k (current l) (nextNow s m)) (o .run) × (o .trace ≡ put tr i (bytesOf (lineNow s m)))
 
   abbrev f : ℕ
-  f = placeNow (countsOf bytes) (u .model .axis)
+  f = firstOf (half (countsOf bytes)) (u .model .axis)
 
   -- place f in the table is the stepping process in the machine's list
   set-is : (ps : List ℕ) (v : ℕ) → ps ≡ m .positions → set (u .positions) f v ≡ 0 ∷ set ps (current l - main c) v

@@ -19,12 +19,13 @@ use Rattle.sheet.specs.declared.records.Record.{Record}
 use Rattle.trace.specs.Lines.{put, lineBytes}
 use Rattle.machine.specs.Calls.{onSet, hold, passivate, wait, cancel, activate, ifEmpty, finish, Call, onList, accum}
 use Rattle.machine.specs.Steps.{nextOf}
-use Rattle.machine.specs.OnTables.{placeNow, timeAt, tablesAfter, Carried, carriedOut}
+use Rattle.machine.specs.OnTables.{tablesAfter, Carried, carriedOut}
 use Rattle.runs.specs.declared.Effect.{Effect}
 use Rattle.runs.specs.declared.Effect.the-variants.{Stays, Jumps, Moves, Refused, Apart}
 use Rattle.runs.specs.Run.{RunTables, Turned, On, Off, recordGot, resolved, callDue, turnedOf, moved, recordAtNow, dueIn, lineIn, stepOn}
 use Rattle.runs.specs.Performed.{callEffect, stays-or-moves, effectOf, unlessRefused, Performed, performed, turnedBy}
 use Rattle.runs.specs.Which.{call-12}
+use Rattle.model.specs.Now.{half, timeOf, firstOf}
 
 -- after an accepted call the process at place f is at next, and its line stands at byte i
 pub record Went (c : Counts) (f time r i next : ℕ) (ps tr ps′ tr′ : List ℕ) : Type 0 where
@@ -59,10 +60,10 @@ stayed (Refused r) = false
 stayed Apart = false
 
 module _ (c : Counts) (t : Tables) (w : List ℤ) where
-  abbrev Kept : Call → Type 0
-  Kept k = (carriedOut c k t w .tables .axis ≡ t .axis) × (carriedOut c k t w .tables .times ≡ t .times)
+  abbrev AxisStays : Call → Type 0
+  AxisStays k = (carriedOut c k t w .tables .axis ≡ t .axis) × (carriedOut c k t w .tables .times ≡ t .times)
 
-  keeps : (k : Call) → stayed (callEffect k) ≡ true → Kept k
+  keeps : (k : Call) → stayed (callEffect k) ≡ true → AxisStays k
   unfolding carriedOut tablesAfter
   keeps (onList (onSet s)) e = (refl, refl)
   keeps (onList (hold z)) e = clash e
@@ -95,9 +96,9 @@ still k q none twelve = go
 
 module _
     (c : Counts) (bytes : List ℕ) (i : ℕ) (u : RunTables) (tr : List ℕ)
-    (f : ℕ) (ef : f ≡ placeNow c (u .model .axis))
+    (f : ℕ) (ef : f ≡ firstOf (half c) (u .model .axis))
     (r : ℕ) (er : r ≡ recordAtNow c u)
-    (time : ℕ) (et : time ≡ timeAt c (u .model .axis) (u .model .times))
+    (time : ℕ) (et : time ≡ timeOf (half c) (u .model .axis) (u .model .times))
     (p : Performed) (ep : p ≡ performed c (recordGot (c .processes) bytes r) f (u .model) (u .words)) where
   abbrev q : Record
   q = recordGot (c .processes) bytes (recordAtNow c u)
@@ -120,18 +121,18 @@ module _
   line-is : lineBytes time (linkageAt c f) r ≡ lineIn c u
   line-is =
       ap (λ (n : ℕ). lineBytes n (linkageAt c f) r) et
-      ∙ ap (λ (n : ℕ). lineBytes (timeAt c (u .model .axis) (u .model .times)) (linkageAt c n) r) ef
-      ∙ ap (λ (n : ℕ). lineBytes (timeAt c (u .model .axis) (u .model .times)) (linkageAt c (placeNow c (u .model .axis))) n) er
+      ∙ ap (λ (n : ℕ). lineBytes (timeOf (half c) (u .model .axis) (u .model .times)) (linkageAt c n) r) ef
+      ∙ ap (λ (n : ℕ). lineBytes (timeOf (half c) (u .model .axis) (u .model .times)) (linkageAt c (firstOf (half c) (u .model .axis))) n) er
 
   abbrev carried : Performed → Carried
   carried o = record { tables = o .tables; words = o .words; answer = a .answer }
 
-  step-is : (v : Turned) → turnedBy (p .effect) (q .next) ≡ v → moved v (carried p) (u .positions) (placeNow c (u .model .axis)) tr i (lineIn c u) ≡ stepOn c bytes i u tr
+  step-is : (v : Turned) → turnedBy (p .effect) (q .next) ≡ v → moved v (carried p) (u .positions) (firstOf (half c) (u .model .axis)) tr i (lineIn c u) ≡ stepOn c bytes i u tr
   unfolding stepOn resolved
   step-is v e =
-      ap (λ (x : Turned). moved x (carried p) (u .positions) (placeNow c (u .model .axis)) tr i (lineIn c u))
+      ap (λ (x : Turned). moved x (carried p) (u .positions) (firstOf (half c) (u .model .axis)) tr i (lineIn c u))
       (sym e ∙ ap (λ (o : Performed). turnedBy (o .effect) (q .next)) same ∙ sym (turned-is k q none (a .answer)))
-      ∙ ap (λ (o : Performed). moved (turnedOf (a .answer) (nextOf q none)) (carried o) (u .positions) (placeNow c (u .model .axis)) tr i (lineIn c u)) same
+      ∙ ap (λ (o : Performed). moved (turnedOf (a .answer) (nextOf q none)) (carried o) (u .positions) (firstOf (half c) (u .model .axis)) tr i (lineIn c u)) same
 
   pub step-off : (x : Refusal) → p .effect ≡ Refused x
       → record { run = record { model = p .tables; positions = u .positions; words = p .words }; trace = tr; turned = Off x } ≡ stepOn c bytes i u tr
@@ -142,7 +143,7 @@ module _
   step-on next e ps tr′ g =
       ap (λ (l : List ℕ). record { run = record { model = p .tables; positions = l; words = p .words }; trace = tr′; turned = On next })
       (g .positions ∙ ap (λ (n : ℕ). set (u .positions) n next) ef)
-      ∙ ap (λ (l : List ℕ). record { run = record { model = p .tables; positions = set (u .positions) (placeNow c (u .model .axis)) next; words = p .words }; trace = l; turned = On next })
+      ∙ ap (λ (l : List ℕ). record { run = record { model = p .tables; positions = set (u .positions) (firstOf (half c) (u .model .axis)) next; words = p .words }; trace = l; turned = On next })
       (g .trace ∙ ap (put tr i) line-is)
       ∙ step-is (On next) (sym (ap (λ (n : ℕ). turnedBy (p .effect) (recordGot (c .processes) bytes n .next)) er) ∙ e)
 
@@ -152,7 +153,7 @@ module _
   step-stays e =
       let z = keeps c (u .model) (u .words) k
       (still k q none
-      (λ o. ap (λ (j : Call). stayed (callEffect j)) (call-12 c (u .model .links) (placeNow c (u .model .axis)) q o))
+      (λ o. ap (λ (j : Call). stayed (callEffect j)) (call-12 c (u .model .links) (firstOf (half c) (u .model .axis)) q o))
       (a .answer) (sym (ap (λ (o : Performed). stayed (o .effect)) same) ∙ e)) in
       (ap (λ (o : Performed). o .tables .axis) same ∙ z .0, ap (λ (o : Performed). o .tables .times) same ∙ z .1)
 

@@ -19,7 +19,6 @@ use Rattle.sheet.specs.declared.records.Record.{Record}
 use Rattle.sheet.specs.Sheet.{recordOffset}
 use Rattle.trace.specs.Lines.{put, lineBytes}
 use Rattle.machine.specs.declared.End.the-variants.{Refused as Ended}
-use Rattle.machine.specs.OnTables.{placeNow}
 use Rattle.runs.specs.declared.Effect.the-variants.{Refused}
 use Rattle.runs.specs.declared.Pause.the-variants.{Full, Apart, Refused as Stopped}
 use Rattle.runs.specs.Run.{RunTables, On, recordGot, endsNow, RanOn, stoppedOn, turnsOn}
@@ -31,26 +30,27 @@ use Rattle.runs.specs.Reads.{got-end}
 use Rattle.runs.specs.Standing.{Standing, place-in, positions-length, number-in}
 use Rattle.runs.specs.StepIs.{Went, stayed}
 use Rattle.runs.specs.Turning.{Turning, turning-start, line-fits, same-lengths}
-use Rattle.runs.specs.Running.{Here, placed, as-placed, here-placed, callable, ends, turned-down, goes-on, moved-on, stays-here}
+use Rattle.runs.specs.Running.{Here, positioned, as-positioned, here-positioned, callable, ends, turned-down, goes-on, moved-on, stays-here}
+use Rattle.model.specs.Now.{half, firstOf}
 
 pub record Stretching (c : Counts) (bytes : List ℕ) (n₀ : ℕ) (whole : RanOn) (u₀ : RunTables) (tr₀ : List ℕ) (end at f time r : ℕ) (u : RunTables) (tr : List ℕ) : Type 0 where
-  pub turning : Turning c bytes (length tr₀ / 16) (at / 16) whole u₀ tr₀ (placed u f r) tr
-  pub here : Here c (placed u f r) f time r
+  pub turning : Turning c bytes (length tr₀ / 16) (at / 16) whole u₀ tr₀ (positioned u f r) tr
+  pub here : Here c (positioned u f r) f time r
   pub begun : 16 * n₀ ≤ at
   pub even : at ≡ 16 * (at / 16)
   pub end-is : end ≡ 16 * (length tr₀ / 16)
 
 pub stretching-start : (c : Counts) (bytes : List ℕ) (n : ℕ) (u : RunTables) (tr : List ℕ) (f time r : ℕ) → Standing c bytes u → length tr ≤ 65536 → n ≤ length tr / 16
-    → f ≡ placeNow c (u .model .axis) → time ≡ getD (u .model .times) f 0 → r ≡ getD (u .positions) f 0
+    → f ≡ firstOf (half c) (u .model .axis) → time ≡ getD (u .model .times) f 0 → r ≡ getD (u .positions) f 0
     → Stretching c bytes n (turnsOn c bytes n (length tr / 16 - n) u tr) u tr (16 * (length tr / 16)) (16 * n) f time r u tr
 stretching-start c bytes n u tr f time r s l h ef et er =
     let z : 16 * n / 16 ≡ n = omega arith in
     record {
       turning =
-          subst (λ (v : RunTables). Turning c bytes (length tr / 16) (16 * n / 16) (turnsOn c bytes n (length tr / 16 - n) u tr) u tr v tr) (as-placed u f r er)
+          subst (λ (v : RunTables). Turning c bytes (length tr / 16) (16 * n / 16) (turnsOn c bytes n (length tr / 16 - n) u tr) u tr v tr) (as-positioned u f r er)
           (subst (λ (j : ℕ). Turning c bytes (length tr / 16) j (turnsOn c bytes n (length tr / 16 - n) u tr) u tr u tr) (sym z)
           (turning-start c bytes n (length tr / 16 - n) u tr s l (omega arith)));
-      here = here-placed c u f time r ef et er;
+      here = here-positioned c u f time r ef et er;
       begun = omega arith;
       even = omega arith;
       end-is = refl;
@@ -62,26 +62,26 @@ module _ (c : Counts) (bytes : List ℕ) (n₀ : ℕ) (whole : RanOn) (u₀ : Ru
   room = length tr₀ / 16
 
   pub its-call : r ≢ 0 → Performable c bytes (recordOffset (c .processes) r) f time (u .model) (u .words)
-  its-call = callable c bytes room (at / 16) whole u₀ tr₀ (placed u f r) tr (s .turning) f time r (s .here)
+  its-call = callable c bytes room (at / 16) whole u₀ tr₀ (positioned u f r) tr (s .turning) f time r (s .here)
 
   pub in-table : f < length (u .positions)
   in-table =
       omega (
         arith,
         length-set (u .positions) f r,
-        positions-length c bytes (placed u f r) (s .turning .stands),
-        place-in c bytes (placed u f r) (s .turning .stands) f (s .here .place-is),
+        positions-length c bytes (positioned u f r) (s .turning .stands),
+        place-in c bytes (positioned u f r) (s .turning .stands) f (s .here .place-is),
       )
 
   -- tables of one sheet have one size
   pub lengths : (length (u .model .links) ≡ length (u₀ .model .links)) × (length (u .model .axis) ≡ length (u₀ .model .axis))
       × (length (u .model .times) ≡ length (u₀ .model .times)) × (length (u .positions) ≡ length (u₀ .positions)) × (length (u .words) ≡ length (u₀ .words))
   lengths =
-      let e = same-lengths c bytes u₀ (placed u f r) (s .turning .begun) (s .turning .stands) in
+      let e = same-lengths c bytes u₀ (positioned u f r) (s .turning .begun) (s .turning .stands) in
       (e .0, e .1, e .2, sym (length-set (u .positions) f r) ∙ e .4, e .5)
 
   pub its-number : c .heads + f < 4294967296
-  its-number = number-in c bytes (placed u f r) (s .turning .stands) f (s .here .place-is)
+  its-number = number-in c bytes (positioned u f r) (s .turning .stands) f (s .here .place-is)
 
   pub most-bytes : at ≤ 65536
   most-bytes = omega (arith, s .even, s .turning .few, s .turning .short)
@@ -90,7 +90,7 @@ module _ (c : Counts) (bytes : List ℕ) (n₀ : ℕ) (whole : RanOn) (u₀ : Ru
   room-left l = omega (arith, s .even, s .end-is)
 
   pub its-line : at < end → at + 16 ≤ length tr
-  its-line l = omega (arith, s .even, line-fits c bytes room (at / 16) whole u₀ tr₀ (placed u f r) tr (s .turning) (room-left l))
+  its-line l = omega (arith, s .even, line-fits c bytes room (at / 16) whole u₀ tr₀ (positioned u f r) tr (s .turning) (room-left l))
 
   -- ---- a call that was made here
 
@@ -101,7 +101,7 @@ module _ (c : Counts) (bytes : List ℕ) (n₀ : ℕ) (whole : RanOn) (u₀ : Ru
     -- main at position 0 is met apart
     unfinished : endsNow c (u .model .axis) (set (u .positions) f r) ≡ false
     unfinished =
-        sym (ends c bytes room (at / 16) whole u₀ tr₀ (placed u f r) tr (s .turning) f time r (s .here) (eqb r 0 && eqb f 1) refl) ∙ rw (ne-eqb r 0 some) refl
+        sym (ends c bytes room (at / 16) whole u₀ tr₀ (positioned u f r) tr (s .turning) f time r (s .here) (eqb r 0 && eqb f 1) refl) ∙ rw (ne-eqb r 0 some) refl
       where
         some : r ≢ 0
         some e =
@@ -119,7 +119,7 @@ module _ (c : Counts) (bytes : List ℕ) (n₀ : ℕ) (whole : RanOn) (u₀ : Ru
           few = omega (arith, s .turning .few);
           left = λ k q.
               ap (λ (l : List ℕ). stoppedOn n (Ended x) (record { model = p .tables; positions = l; words = p .words }) tr) eps
-              ∙ turned-down c bytes room (at / 16) whole u₀ tr₀ (placed u f r) tr (s .turning) f time r (s .here) (room-left h) unfinished p made n en x e;
+              ∙ turned-down c bytes room (at / 16) whole u₀ tr₀ (positioned u f r) tr (s .turning) f time r (s .here) (room-left h) unfinished p made n en x e;
           full = λ z. clash z;
           due = λ z. clash z;
         }
@@ -135,7 +135,7 @@ module _ (c : Counts) (bytes : List ℕ) (n₀ : ℕ) (whole : RanOn) (u₀ : Ru
           → Turning c bytes room ((at + 16) / 16) whole u₀ tr₀ (after ps) tr′
       turned ps g =
           subst (λ (j : ℕ). Turning c bytes room j whole u₀ tr₀ (after ps) tr′) (sym one-more)
-          (goes-on c bytes room (at / 16) whole u₀ tr₀ (placed u f r) tr (s .turning) f time r (s .here) (room-left h) unfinished p made next v ps tr′ g z)
+          (goes-on c bytes room (at / 16) whole u₀ tr₀ (positioned u f r) tr (s .turning) f time r (s .here) (room-left h) unfinished p made next v ps tr′ g z)
 
       -- the process stays current, and its position is kept beside the table
       pub stays : stayed (p .effect) ≡ true → tr′ ≡ put tr at (lineBytes time (linkageAt c f) r)
@@ -144,7 +144,7 @@ module _ (c : Counts) (bytes : List ℕ) (n₀ : ℕ) (whole : RanOn) (u₀ : Ru
           record {
             turning = turned (set (u .positions) f next) went;
             here =
-                stays-here c bytes room (at / 16) whole u₀ tr₀ (placed u f r) tr (s .turning) f time r (s .here) (room-left h) unfinished p made next v
+                stays-here c bytes room (at / 16) whole u₀ tr₀ (positioned u f r) tr (s .turning) f time r (s .here) (room-left h) unfinished p made next v
                 (set (u .positions) f next) tr′ went st;
             begun = omega (arith, s .begun);
             even = omega (arith, s .even);
@@ -168,14 +168,14 @@ module _ (c : Counts) (bytes : List ℕ) (n₀ : ℕ) (whole : RanOn) (u₀ : Ru
 
         pub next-kept : next ≡ getD ps f 0
         next-kept =
-            moved-on c bytes room (at / 16) whole u₀ tr₀ (placed u f r) tr (s .turning) f time r (s .here) (room-left h) unfinished p made next v ps tr′ went
+            moved-on c bytes room (at / 16) whole u₀ tr₀ (positioned u f r) tr (s .turning) f time r (s .here) (room-left h) unfinished p made next v ps tr′ went
 
-        pub moves : (f′ time′ r′ : ℕ) → f′ ≡ placeNow c (p .tables .axis) → time′ ≡ getD (p .tables .times) f′ 0 → r′ ≡ getD ps f′ 0
+        pub moves : (f′ time′ r′ : ℕ) → f′ ≡ firstOf (half c) (p .tables .axis) → time′ ≡ getD (p .tables .times) f′ 0 → r′ ≡ getD ps f′ 0
             → Stretching c bytes n₀ whole u₀ tr₀ end (at + 16) f′ time′ r′ (after ps) tr′
         moves f′ time′ r′ ef et er =
             record {
-              turning = subst (λ (x : RunTables). Turning c bytes room ((at + 16) / 16) whole u₀ tr₀ x tr′) (as-placed (after ps) f′ r′ er) (turned ps went);
-              here = here-placed c (after ps) f′ time′ r′ ef et er;
+              turning = subst (λ (x : RunTables). Turning c bytes room ((at + 16) / 16) whole u₀ tr₀ x tr′) (as-positioned (after ps) f′ r′ er) (turned ps went);
+              here = here-positioned c (after ps) f′ time′ r′ ef et er;
               begun = omega (arith, s .begun);
               even = omega (arith, s .even);
               end-is = s .end-is;
@@ -184,8 +184,8 @@ module _ (c : Counts) (bytes : List ℕ) (n₀ : ℕ) (whole : RanOn) (u₀ : Ru
   -- ---- the position goes to the table
 
   module _ (n : ℕ) (en : n ≡ at / 16) where
-    rest-is : (k : ℕ) → n + k ≡ room → turnsOn c bytes n k (placed u f r) tr ≡ whole
-    rest-is k q = ap (λ (j : ℕ). turnsOn c bytes j k (placed u f r) tr) en ∙ s .turning .same k (omega arith)
+    rest-is : (k : ℕ) → n + k ≡ room → turnsOn c bytes n k (positioned u f r) tr ≡ whole
+    rest-is k q = ap (λ (j : ℕ). turnsOn c bytes j k (positioned u f r) tr) en ∙ s .turning .same k (omega arith)
 
     -- where there is no room for a line
     pub fills : end ≤ at → (ps : List ℕ) → ps ≡ set (u .positions) f r
@@ -208,7 +208,7 @@ module _ (c : Counts) (bytes : List ℕ) (n₀ : ℕ) (whole : RanOn) (u₀ : Ru
           → Paused c bytes n₀ whole tr₀ (record { model = p .tables; positions = ps; words = p .words }) tr (record { lines = n; pause = Apart })
       waits ps eps =
           let d = left-of c (recordGot (c .processes) bytes r) f (u .model) (u .words) p is m in
-          let same : placed u f r ≡ record { model = p .tables; positions = ps; words = p .words } =
+          let same : positioned u f r ≡ record { model = p .tables; positions = ps; words = p .words } =
           ap (λ (t : Tables). record { model = t; positions = set (u .positions) f r; words = u .words }) (sym (d .1))
           ∙ ap (λ (w : List ℤ). record { model = p .tables; positions = set (u .positions) f r; words = w }) (sym (d .2))
           ∙ ap (λ (l : List ℕ). record { model = p .tables; positions = l; words = p .words }) (sym eps) in

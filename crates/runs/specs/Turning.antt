@@ -15,10 +15,11 @@ use Rattle.machine.specs.declared.End.the-variants.{Finished, Full, Refused}
 use Rattle.machine.specs.Machine.{Machine, withPosition}
 use Rattle.machine.specs.Calls.{perform}
 use Rattle.machine.specs.Steps.{callNow, nextNow}
-use Rattle.machine.specs.OnTables.{placeNow, Carried, carriedOut}
+use Rattle.machine.specs.OnTables.{Carried, carriedOut}
 use Rattle.runs.specs.Run.{RunTables, Turned, On, Off, Stepped, callDue, turnedOf, moved, dueIn, lineIn, stepOn, endsNow, RanOn, stoppedOn, turnsOn}
 use Rattle.runs.specs.Standing.{Standing, sized, ready, positions-length, words-length}
 use Rattle.runs.specs.StepFollows.{StepIs, step-follows}
+use Rattle.model.specs.Now.{half, firstOf}
 
 -- ---- an accepted step leaves tables of a machine
 
@@ -39,19 +40,19 @@ module _ (bytes : List ℕ) (u : RunTables) (i : ℕ) (tr : List ℕ) where
 
   -- the record that it goes on at is its position
   pub next-kept : (c : Counts) (next : ℕ) → Standing c bytes u → stepOn c bytes i u tr .turned ≡ On next
-      → next ≡ getD (stepOn c bytes i u tr .run .positions) (placeNow c (u .model .axis)) 0
+      → next ≡ getD (stepOn c bytes i u tr .run .positions) (firstOf (half c) (u .model .axis)) 0
   unfolding stepOn
   next-kept c next s e = go (turnedOf (carriedOut c (callDue (dueIn c bytes u)) (u .model) (u .words) .answer) (dueIn c bytes u .next)) e
     where
       a : Carried
       a = carriedOut c (callDue (dueIn c bytes u)) (u .model) (u .words)
 
-      within : placeNow c (u .model .axis) < length (u .positions)
+      within : firstOf (half c) (u .model .axis) < length (u .positions)
       within = omega (arith, positions-length c bytes u s, ready c bytes u s .first-in)
 
-      go : (v : Turned) → moved v a (u .positions) (placeNow c (u .model .axis)) tr i (lineIn c u) .turned ≡ On next
-          → next ≡ getD (moved v a (u .positions) (placeNow c (u .model .axis)) tr i (lineIn c u) .run .positions) (placeNow c (u .model .axis)) 0
-      go (On n) w = let z : n ≡ next = cc in sym z ∙ sym (getD-set-same (u .positions) (placeNow c (u .model .axis)) n 0 within)
+      go : (v : Turned) → moved v a (u .positions) (firstOf (half c) (u .model .axis)) tr i (lineIn c u) .turned ≡ On next
+          → next ≡ getD (moved v a (u .positions) (firstOf (half c) (u .model .axis)) tr i (lineIn c u) .run .positions) (firstOf (half c) (u .model .axis)) 0
+      go (On n) w = let z : n ≡ next = cc in sym z ∙ sym (getD-set-same (u .positions) (firstOf (half c) (u .model .axis)) n 0 within)
       go (Off q) w = let y : false ≡ true = cc in clash y
 
 -- ---- tables of one sheet have one size
@@ -178,8 +179,8 @@ module _ (c : Counts) (bytes : List ℕ) (room n : ℕ) (whole : RanOn) (u₀ : 
           }
 
       -- the position that is kept beside the table
-      pub turning-at : (next p : ℕ) → o .turned ≡ On next → p ≡ placeNow c (u .model .axis) → next ≡ getD (o .run .positions) p 0
+      pub turning-at : (next p : ℕ) → o .turned ≡ On next → p ≡ firstOf (half c) (u .model .axis) → next ≡ getD (o .run .positions) p 0
       turning-at next p v is =
           next-kept bytes u (16 * n) tr c next (t .stands) (ap (λ (q : Stepped). q .turned) (sym e) ∙ v)
-          ∙ ap (λ (q : Stepped). getD (q .run .positions) (placeNow c (u .model .axis)) 0) (sym e)
+          ∙ ap (λ (q : Stepped). getD (q .run .positions) (firstOf (half c) (u .model .axis)) 0) (sym e)
           ∙ ap (λ (j : ℕ). getD (o .run .positions) j 0) (sym is)

@@ -10,18 +10,17 @@ use lib.Dec.{eqb, leb}
 use lib.IntN.{ℤ, pos, negsuc, _+ℤ_, +ℤ-comm}
 use lib.ListN.{length}
 use borrow.Author.Tests.{eq-eqb, ne-eqb, eqb-true, le-leb, lt-leb, lt-ltb, le-ltb}
-use Rattle.rings.specs.Lists.{if_then_else_, In, decide, below, test}
+use Rattle.rings.specs.Lists.{clash, if_then_else_, In, decide, below, test}
 use Rattle.rings.specs.Tabulate.{has}
 use Rattle.counts.specs.declared.Counts.{Counts}
 use Rattle.counts.specs.Counts.{limit}
 use Rattle.model.specs.Notices.{Notice, whos, dueOf, From, InOrder, Within}
 use Rattle.model.specs.Tables.{Lists}
-use Rattle.sequencing.specs.Choice.{clash}
 use Rattle.sequencing.specs.NoticeOps.{behindAll, frontAll, dropped, hasNotice, first}
 use Rattle.sequencing.specs.NoticeLaws.{Ins, ins-in, ins-new, drop-none}
 use Rattle.sequencing.specs.PutLaws.{last-ins, front-ins, front-first}
 use Rattle.sequencing.specs.BesideLaws.{before-ins, after-ins, before-none, after-none}
-use Rattle.sequencing.specs.Kept.{some-in}
+use Rattle.sequencing.specs.NoticesKept.{some-in}
 use Rattle.sequencing.specs.PlacedLaws.{due-beside}
 use Rattle.sequencing.specs.StepPromise.{clause-in}
 use Rattle.sequencing.specs.AgreeEnds.{has-in, has-none}
@@ -198,7 +197,7 @@ activate-is c again k x y t l n ns e o w z =
     (λ g. rw g refl)
   where
     some : (eqb x 0 || has x (l .terminated)) ≡ false → x ≢ 0
-    some v q = clash (rw (eq-eqb x 0 q) at v)
+    some v q = clash (sym (rw (eq-eqb x 0 q) at v))
 
     go : (b : Bool) → x ≢ 0 → k ≤ 6
         → (if b then byCode (hasNotice x (l .notices)) x (clauseCode k) t y (clausePrior k) l

@@ -20,16 +20,15 @@ use Rattle.sequencing.specs.NoticeOps.{behindAll}
 use Rattle.sequencing.specs.Plain.{Result, refused, done, withNotices, above, hold}
 use Rattle.sequencing.specs.NoticeLaws.{rest-drop}
 use Rattle.sequencing.specs.PutLaws.{last-ins, last-sorted}
-use Rattle.sequencing.specs.Kept.{Kept, kept-ins}
-use Rattle.sequencing.specs.Procedures.{Sqs, Outcome, firstOf, timeOf, sucOf, lone, found, dropOn, ranked, heldAt, heldTo, held}
+use Rattle.sequencing.specs.NoticesKept.{NoticesKept, kept-ins}
+use Rattle.sequencing.specs.Procedures.{Sqs, Outcome, nextOn, lone, found, dropOn, ranked, heldAt, heldTo, held}
 use Rattle.sequencing.specs.ByDue.{byDue, by-behind}
-use Rattle.sequencing.specs.Places.{half, SpellsTime, Process, chain, off-head, once, is-process, times-at, times-set, drop-spells}
+use Rattle.sequencing.specs.Calls.{sqsOf}
+use Rattle.sequencing.specs.Places.{SpellsTime, Process, chain, off-head, once, is-process, times-at, times-set, drop-spells}
 use Rattle.sequencing.specs.Spots.{put-spells, found-spot}
+use Rattle.model.specs.Now.{timeOf, firstOf, half}
 
 -- ---- what a call leaves, and what the machine answers
-
-abbrev pub sqsOf : Tables → Sqs
-sqsOf t = record { axis = t .axis; times = t .times }
 
 abbrev pub withSqs : Tables → Sqs → Tables
 withSqs t a = record { links = t .links; axis = a .axis; times = a .times; marks = t .marks }
@@ -51,11 +50,11 @@ module _ (c : Counts) (M : Lists) (t : Tables) (sp : Spells c M t) where
   pub its-time : SpellsTime c (M .notices) (sqsOf t)
   its-time = record { axis = sp .axis; times = sp .times }
 
-  pub its-kept : Kept (M .terminated) (M .notices)
+  pub its-kept : NoticesKept (M .terminated) (M .notices)
   its-kept = record { some = sp .some; in-order = sp .in-order; within = sp .within; idle = λ x i. sp .ended x i .3 }
 
   -- notices as well formed as before, and spelled: the tables spell the lists with these notices
-  pub respell : (l : List Notice) (a : Sqs) → Kept (M .terminated) l → SpellsTime c l a → Spells c (withNotices M l) (withSqs t a)
+  pub respell : (l : List Notice) (a : Sqs) → NoticesKept (M .terminated) l → SpellsTime c l a → Spells c (withNotices M l) (withSqs t a)
   respell l a k s =
       record {
         links = sp .links;
@@ -74,22 +73,22 @@ module _ (c : Counts) (n : Notice) (ns : List Notice) (a : Sqs) (sp : SpellsTime
   abbrev m : ℕ
   m = half c
 
-  pub first-is : firstOf m a ≡ n .who - c .heads
+  pub first-is : firstOf m (a .axis) ≡ n .who - c .heads
   first-is = sym (getD-take m (a .axis) (m - 1) 0 (omega arith)) ∙ chain c (n ∷ ns) a sp .0 .next
 
   pub process-first : Process c (n .who)
   process-first = is-process c (n ∷ ns) a sp (n .who) (inl refl)
 
-  pub time-is : timeOf m a ≡ n .due
+  pub time-is : timeOf m (a .axis) (a .times) ≡ n .due
   time-is = rw first-is (times-at c (n ∷ ns) a sp (n .who) process-first ∙ (rw (eq-eqb (n .who) (n .who) refl)))
 
   -- out of the list, the first leaves the rest
-  pub rest-spells : SpellsTime c ns (dropOn m (firstOf m a) a)
+  pub rest-spells : SpellsTime c ns (dropOn m (firstOf m (a .axis)) a)
   rest-spells =
       rw first-is (rw (← (rest-drop n ns (once c (n ∷ ns) a sp))) at (drop-spells c (n ∷ ns) a sp (n .who) process-first))
 
   -- the first, due at u, stays first
-  pub stays-spells : (u : ℕ) → SpellsTime c (record { who = n .who; due = u } ∷ ns) (record { axis = a .axis; times = set (a .times) (firstOf m a) u })
+  pub stays-spells : (u : ℕ) → SpellsTime c (record { who = n .who; due = u } ∷ ns) (record { axis = a .axis; times = set (a .times) (firstOf m (a .axis)) u })
   stays-spells u =
       record {
         axis = sp .axis;
@@ -100,12 +99,12 @@ module _ (c : Counts) (n : Notice) (ns : List Notice) (a : Sqs) (sp : SpellsTime
             (λ z d. rw (ne-eqb (n .who) z (λ e. d (sym e)))));
       }
 
-pub suc-none : (c : Counts) (n : Notice) (a : Sqs) → SpellsTime c (n ∷ []) a → sucOf a (firstOf (half c) a) ≡ half c - 1
+pub suc-none : (c : Counts) (n : Notice) (a : Sqs) → SpellsTime c (n ∷ []) a → nextOn a (firstOf (half c) (a .axis)) ≡ half c - 1
 suc-none c n a sp =
     rw (first-is c n [] a sp)
     (sym (getD-take (half c) (a .axis) (n .who - c .heads) 0 (omega (arith, process-first c n [] a sp))) ∙ chain c (n ∷ []) a sp .1 .next)
 
-pub suc-some : (c : Counts) (n k : Notice) (ks : List Notice) (a : Sqs) → SpellsTime c (n ∷ k ∷ ks) a → sucOf a (firstOf (half c) a) ≡ k .who - c .heads
+pub suc-some : (c : Counts) (n k : Notice) (ks : List Notice) (a : Sqs) → SpellsTime c (n ∷ k ∷ ks) a → nextOn a (firstOf (half c) (a .axis)) ≡ k .who - c .heads
 suc-some c n k ks a sp =
     rw (first-is c n (k ∷ ks) a sp)
     (sym (getD-take (half c) (a .axis) (n .who - c .heads) 0 (omega (arith, process-first c n (k ∷ ks) a sp))) ∙ chain c (n ∷ k ∷ ks) a sp .1 .0 .next)
@@ -124,21 +123,21 @@ unfolding heldAt
 held-spells c n [] a u sp o = rw (lone-yes c n a sp) (stays-spells c n [] a sp u)
 held-spells c n (k ∷ ks) a u sp o =
     let f : Notice = record { who = n .who; due = u } in
-    let e : getD (a .times) (sucOf a (firstOf (half c) a)) 0 ≡ k .due =
+    let e : getD (a .times) (nextOn a (firstOf (half c) (a .axis))) 0 ≡ k .due =
     rw (suc-some c n k ks a sp)
     (times-at c (n ∷ k ∷ ks) a sp (k .who) (is-process c (n ∷ k ∷ ks) a sp (k .who) (inr (inl refl)))
     ∙ (rw (ne-eqb (n .who) (k .who) (λ q. once c (n ∷ k ∷ ks) a sp .0 (inl q)), eq-eqb (k .who) (k .who) refl))) in
     below u (k .due)
     (λ l. rw (lone-no c n k ks a sp, e, lt-ltb u (k .due) l, lt-leb (k .due) u l) (stays-spells c n (k ∷ ks) a sp u))
     (λ l.
-    let r : SpellsTime c (k ∷ ks) (dropOn (half c) (firstOf (half c) a) a) = rest-spells c n (k ∷ ks) a sp in
-    let q : SpellsTime c (byDue (suc u) f (k ∷ ks)) (ranked (half c) (n .who - c .heads) u (dropOn (half c) (firstOf (half c) a) a)) =
-    put-spells c (k ∷ ks) (dropOn (half c) (firstOf (half c) a) a) r f (found (half c) (suc u) (dropOn (half c) (firstOf (half c) a) a)) (byDue (suc u) f (k ∷ ks))
+    let r : SpellsTime c (k ∷ ks) (dropOn (half c) (firstOf (half c) (a .axis)) a) = rest-spells c n (k ∷ ks) a sp in
+    let q : SpellsTime c (byDue (suc u) f (k ∷ ks)) (ranked (half c) (n .who - c .heads) u (dropOn (half c) (firstOf (half c) (a .axis)) a)) =
+    put-spells c (k ∷ ks) (dropOn (half c) (firstOf (half c) (a .axis)) a) r f (found (half c) (suc u) (dropOn (half c) (firstOf (half c) (a .axis)) a)) (byDue (suc u) f (k ∷ ks))
     (process-first c n (k ∷ ks) a sp) (once c (n ∷ k ∷ ks) a sp .0)
-    (found-spot c (k ∷ ks) (dropOn (half c) (firstOf (half c) a) a) r f (suc u) (o .1)) in
+    (found-spot c (k ∷ ks) (dropOn (half c) (firstOf (half c) (a .axis)) a) r f (suc u) (o .1)) in
     rw (lone-no c n k ks a sp, e, le-ltb u (k .due) l)
-    (subst (λ (z : ℕ). SpellsTime c (behindAll f (k ∷ ks)) (ranked (half c) z u (dropOn (half c) (firstOf (half c) a) a))) (sym (first-is c n (k ∷ ks) a sp))
-    (subst (λ (l : List Notice). SpellsTime c l (ranked (half c) (n .who - c .heads) u (dropOn (half c) (firstOf (half c) a) a))) (by-behind f (k ∷ ks)) q)))
+    (subst (λ (z : ℕ). SpellsTime c (behindAll f (k ∷ ks)) (ranked (half c) z u (dropOn (half c) (firstOf (half c) (a .axis)) a))) (sym (first-is c n (k ∷ ks) a sp))
+    (subst (λ (l : List Notice). SpellsTime c l (ranked (half c) (n .who - c .heads) u (dropOn (half c) (firstOf (half c) (a .axis)) a))) (by-behind f (k ∷ ks)) q)))
 
 module _ (c : Counts) (M : Lists) (t : Tables) (sp : Spells c M t) (n : Notice) (ns : List Notice) (e : M .notices ≡ n ∷ ns) where
   abbrev a : Sqs
@@ -147,11 +146,11 @@ module _ (c : Counts) (M : Lists) (t : Tables) (sp : Spells c M t) (n : Notice) 
   pub st : SpellsTime c (n ∷ ns) a
   st = rw e at (its-time c M t sp)
 
-  pub kt : Kept (M .terminated) (n ∷ ns)
+  pub kt : NoticesKept (M .terminated) (n ∷ ns)
   kt = rw e at (its-kept c M t sp)
 
   -- the first notice at another time
-  held-kept : (u : ℕ) → u ≤ limit → Kept (M .terminated) (behindAll (record { who = n .who; due = u }) ns)
+  held-kept : (u : ℕ) → u ≤ limit → NoticesKept (M .terminated) (behindAll (record { who = n .who; due = u }) ns)
   held-kept u l =
       let f : Notice = record { who = n .who; due = u } in
       kept-ins (M .terminated) f ns (behindAll f ns) (last-ins f ns) (last-sorted f ns (kt .in-order .1)) l (kt .within .1)

@@ -9,7 +9,7 @@ use lib.Dec.{ltb, eqb}
 use lib.ListN.{length, getD, set}
 use lib.Seq.{getD-take}
 use borrow.Author.Tests.{eq-eqb, ne-eqb, leb-true, ltb-true}
-use Rattle.rings.specs.Lists.{if_then_else_, In, decide, test}
+use Rattle.rings.specs.Lists.{clash, if_then_else_, In, decide, test}
 use Rattle.rings.specs.Tabulate.{listed, has, bit}
 use Rattle.counts.specs.declared.Counts.{Counts}
 use Rattle.counts.specs.declared.Refusal.the-variants.{NoNotice}
@@ -18,16 +18,18 @@ use Rattle.model.specs.Notices.{Notice, whos}
 use Rattle.model.specs.Tables.{Tables, Lists, Spells}
 use Rattle.sets.specs.Calls.{orNone}
 use Rattle.sets.specs.Sets.{precedeSets}
-use Rattle.sequencing.specs.Choice.{clash, and-left, and-right}
+use Rattle.sequencing.specs.Choice.{and-left, and-right}
 use Rattle.sequencing.specs.NoticeOps.{dropped, hasNotice, rest, first}
 use Rattle.sets.specs.Meaning.{withSets}
 use Rattle.sequencing.specs.Plain.{refused, done, current, withNotices, withTerminated, leaving, passivate, wait, cancel, finish}
 use Rattle.sequencing.specs.NoticeLaws.{drop-old, drop-none}
-use Rattle.sequencing.specs.Kept.{Kept, some-in, kept-drop, kept-rest}
-use Rattle.sequencing.specs.Procedures.{Sqs, made, turnedDown, firstOf, idleAt, lone, dropOn, passivated, cancelled, finishedMarks}
+use Rattle.sequencing.specs.NoticesKept.{NoticesKept, some-in, kept-drop, kept-rest}
+use Rattle.sequencing.specs.Procedures.{Sqs, made, turnedDown, idleAt, lone, dropOn, passivated, cancelled, finishedMarks}
 use Rattle.sequencing.specs.ByDue.{listed-set}
-use Rattle.sequencing.specs.Places.{half, SpellsTime, Process, once, is-process, linked, idle-is, drop-spells}
-use Rattle.sequencing.specs.Agree.{sqsOf, withSqs, Agrees, AgreesMarked, respell, first-is, process-first, rest-spells, lone-yes, lone-no, st, kt}
+use Rattle.sequencing.specs.Places.{SpellsTime, Process, once, is-process, linked, idle-is, drop-spells}
+use Rattle.sequencing.specs.Agree.{withSqs, Agrees, AgreesMarked, respell, first-is, process-first, rest-spells, lone-yes, lone-no, st, kt}
+use Rattle.model.specs.Now.{firstOf, half}
+use Rattle.sequencing.specs.Calls.{sqsOf}
 
 -- x may be terminated
 abbrev Ended : Counts → ℕ → List Notice → Type 0
@@ -46,7 +48,7 @@ party c x e =
     Party.proc (record { over = ltb-true (c .heads) x (and-left (ltb (c .heads) x) _ f); upto = leb-true x (c .heads + c .processes) (and-right (ltb (c .heads) x) _ f) }))
 
 pub has-in : (y : ℕ) (ns : List Notice) → hasNotice y ns ≡ true → In y (whos ns)
-has-in y [] e = clash (sym e)
+has-in y [] e = clash e
 has-in y (k ∷ ks) e =
     decide (k .who) y
     (λ q. inl (sym q))
@@ -56,7 +58,7 @@ pub has-none : (y : ℕ) (ns : List Notice) → hasNotice y ns ≡ false → In 
 has-none y [] e i = i
 has-none y (k ∷ ks) e i =
     decide (k .who) y
-    (λ q. clash (rw (eq-eqb (k .who) y q) at e))
+    (λ q. clash (sym (rw (eq-eqb (k .who) y q) at e)))
     (λ d. has-none y ks (rw (ne-eqb (k .who) y d) at e) (⊎-elim (λ q. absurd (d (sym q))) (λ j. j) i))
 
 -- nothing is refused where a notice is left
@@ -82,8 +84,8 @@ module _ (c : Counts) (M : Lists) (t : Tables) (sp : Spells c M t) (n : Notice) 
   unfolding passivate passivated
   passivate-agrees = subst (λ (l : List Notice). Agrees c t (leaving M (rest l)) (passivated (half c) (sqsOf t))) (sym e) (go ns (kt c M t sp n ns e) (st c M t sp n ns e))
     where
-      go : (ns : List Notice) → Kept (M .terminated) (n ∷ ns) → SpellsTime c (n ∷ ns) (sqsOf t)
-          → Agrees c t (leaving M ns) (if lone (half c) (sqsOf t) then turnedDown NoNotice (sqsOf t) else made (dropOn (half c) (firstOf (half c) (sqsOf t)) (sqsOf t)))
+      go : (ns : List Notice) → NoticesKept (M .terminated) (n ∷ ns) → SpellsTime c (n ∷ ns) (sqsOf t)
+          → Agrees c t (leaving M ns) (if lone (half c) (sqsOf t) then turnedDown NoNotice (sqsOf t) else made (dropOn (half c) (firstOf (half c) (t .axis)) (sqsOf t)))
       go [] w s = rw (lone-yes c n (sqsOf t) s) (refl, refl)
       go (k ∷ ks) w s =
           rw (lone-no c n k ks (sqsOf t) s)
@@ -99,7 +101,7 @@ module _ (c : Counts) (M : Lists) (t : Tables) (sp : Spells c M t) (n : Notice) 
       rw (idle-has c (n ∷ ns) (sqsOf t) (st c M t sp n ns e) x p, h, drop-none x (n ∷ ns) (has-none x (n ∷ ns) h))
       (refl, respell c M t sp (n ∷ ns) (sqsOf t) (kt c M t sp n ns e) (st c M t sp n ns e)))
     where
-      some : (ns : List Notice) → Kept (M .terminated) (n ∷ ns) → SpellsTime c (n ∷ ns) (sqsOf t) → In x (whos (n ∷ ns))
+      some : (ns : List Notice) → NoticesKept (M .terminated) (n ∷ ns) → SpellsTime c (n ∷ ns) (sqsOf t) → In x (whos (n ∷ ns))
           → Agrees c t (leaving M (dropped x (n ∷ ns))) (if lone (half c) (sqsOf t) then turnedDown NoNotice (sqsOf t) else made (dropOn (half c) (x - c .heads) (sqsOf t)))
       some [] w s (inl q) = rw (lone-yes c n (sqsOf t) s, eq-eqb (n .who) x (sym q)) (refl, refl)
       some [] w s (inr i) = absurd i
@@ -140,13 +142,13 @@ module _ (c : Counts) (M : Lists) (t : Tables) (sp : Spells c M t) (n : Notice) 
       own p ns f = (p .over, p .upto, λ q. off q, f)
         where
           off : n .who ≡ main c → ⊥
-          off q = clash (sym g ∙ (rw (e, eq-eqb (n .who) (main c) q)))
+          off q = clash (sym (rw (e, eq-eqb (n .who) (main c) q)) ∙ g)
 
-      go : (ns : List Notice) → Kept (M .terminated) (n ∷ ns) → SpellsTime c (n ∷ ns) (sqsOf t)
+      go : (ns : List Notice) → NoticesKept (M .terminated) (n ∷ ns) → SpellsTime c (n ∷ ns) (sqsOf t)
           → AgreesMarked c t (leaving (withTerminated M (n .who ∷ M .terminated)) ns) (passivated (half c) (sqsOf t)) (finishedMarks (half c) (t .marks) (sqsOf t))
       go [] w s = rw (lone-yes c n (sqsOf t) s) (refl, refl, refl)
       go (k ∷ ks) w s =
-          let r : SpellsTime c (k ∷ ks) (dropOn (half c) (firstOf (half c) (sqsOf t)) (sqsOf t)) = rest-spells c n (k ∷ ks) (sqsOf t) s in
+          let r : SpellsTime c (k ∷ ks) (dropOn (half c) (firstOf (half c) (t .axis)) (sqsOf t)) = rest-spells c n (k ∷ ks) (sqsOf t) s in
           rw (lone-no c n k ks (sqsOf t) s) (
             refl,
             record {
@@ -171,7 +173,7 @@ module _ (c : Counts) (M : Lists) (t : Tables) (sp : Spells c M t) (n : Notice) 
     where
       go : (ns : List Notice) → SpellsTime c (n ∷ ns) (sqsOf t) → leaving M′ ns ≡ refused NoNotice
       go [] s = refl
-      go (k ∷ ks) s = clash (sym l ∙ lone-no c n k ks (sqsOf t) s)
+      go (k ∷ ks) s = clash (sym (lone-no c n k ks (sqsOf t) s) ∙ l)
 
   -- t is what `into` left, M the machine with its sets
   pub wait-agrees : (y : ℕ) (M₀ : Lists) → orNone (isHead c y) y ≡ true → M ≡ withSets M₀ (precedeSets (current M₀) y (M₀ .sets))

@@ -8,7 +8,7 @@ use lib.Dec.{leb, ltb, eqb}
 use lib.IntN.{ℤ, pos, negsuc, _+ℤ_}
 use lib.ListN.{getD}
 use borrow.Author.Tests.{eq-eqb, ne-eqb, eqb-true, eqb-false, le-leb, leb-true}
-use Rattle.rings.specs.Lists.{if_then_else_, In, decide, test}
+use Rattle.rings.specs.Lists.{clash, if_then_else_, In, decide, test}
 use Rattle.rings.specs.Tabulate.{has, bit, listed-at}
 use Rattle.counts.specs.declared.Counts.{Counts}
 use Rattle.counts.specs.Counts.{limit, isProcess}
@@ -16,21 +16,23 @@ use Rattle.model.specs.Notices.{Notice, whos, dueOf, From, InOrder}
 use Rattle.model.specs.Tables.{Tables, Lists, Spells}
 use Rattle.sets.specs.Calls.{orNone}
 use Rattle.model.specs.Reading.{due-none}
-use Rattle.sequencing.specs.Choice.{clash, and-left, and-right}
+use Rattle.sequencing.specs.Choice.{and-left, and-right}
 use Rattle.sequencing.specs.NoticeOps.{dropped, hasNotice}
 use Rattle.sequencing.specs.Plain.{done, time, withNotices, above, leaving, dueFor, placed, noEffect, timedNeed}
 use Rattle.sequencing.specs.NoticeLaws.{ins-new, drop-in, drop-gone, drop-old, drop-sorted, drop-from, drop-due}
 use Rattle.sequencing.specs.BesideLaws.{before-none, after-none}
-use Rattle.sequencing.specs.Kept.{Kept, kept-ins, dropped-within, dropped-idle}
+use Rattle.sequencing.specs.NoticesKept.{NoticesKept, kept-ins, dropped-within, dropped-idle}
 use Rattle.sequencing.specs.PutLaws.{front-first}
 use Rattle.sequencing.specs.Replace.{timedDropFirst}
 use Rattle.sequencing.specs.PlacedLaws.{placed-sorted, due-beside, not-ended, others-y}
-use Rattle.sequencing.specs.Procedures.{Sqs, made, timeOf, idleAt, found, dropOn, cancelled, vain, dueAt, placeFor, scheduled, activated}
+use Rattle.sequencing.specs.Procedures.{Sqs, made, idleAt, found, dropOn, cancelled, vain, dueAt, placeFor, putByClause, activated}
 use Rattle.sequencing.specs.ByDue.{by-behind, by-front}
-use Rattle.sequencing.specs.Places.{half, SpellsTime, Process, is-process, times-at, drop-spells}
+use Rattle.sequencing.specs.Places.{SpellsTime, Process, is-process, times-at, drop-spells}
 use Rattle.sequencing.specs.Spots.{Spot, put-spells, found-spot, first-spot, after-spot, before-spot}
-use Rattle.sequencing.specs.Agree.{sqsOf, Agrees, its-time, its-kept, respell, st, time-is}
+use Rattle.sequencing.specs.Agree.{Agrees, its-time, its-kept, respell, st, time-is}
 use Rattle.sequencing.specs.AgreeEnds.{Party, party, has-in, has-none, idle-has, drop-agrees}
+use Rattle.model.specs.Now.{timeOf, half}
+use Rattle.sequencing.specs.Calls.{sqsOf}
 
 -- ---- numbers and tests
 
@@ -78,7 +80,7 @@ module _ (c : Counts) (M : Lists) (t : Tables) (sp : Spells c M t) (n : Notice) 
   spt : SpellsTime c (M .notices) a
   spt = its-time c M t sp
 
-  pub time-here : timeOf m a ≡ time M
+  pub time-here : timeOf m (a .axis) (a .times) ≡ time M
   time-here = rw e (time-is c n ns a (st c M t sp n ns e))
 
   pub marks-at : (x : ℕ) → Process c x → getD (t .marks) (x - c .heads) 0 ≡ bit (has x (M .terminated))
@@ -95,7 +97,7 @@ module _ (c : Counts) (M : Lists) (t : Tables) (sp : Spells c M t) (n : Notice) 
       rw (sp .times, z) (sym (due-none (M .notices) y (λ i. omega (arith, is-process c (M .notices) a spt y i))))
   due-of y (Party.proc p) = times-at c (M .notices) a spt y p
 
-  pub due-is : (k y : ℕ) (z : ℤ) → (5 ≤ k → Party c y) → dueAt k (y - c .heads) (above z) (timeOf m a) (a .times) ≡ dueFor k y z M
+  pub due-is : (k y : ℕ) (z : ℤ) → (5 ≤ k → Party c y) → dueAt k (y - c .heads) (above z) (timeOf m (a .axis) (a .times)) (a .times) ≡ dueFor k y z M
   unfolding dueAt dueFor
   due-is k y z g =
       test (eqb k 0) (λ q. rw q time-here) (λ q.
@@ -134,7 +136,7 @@ module _ (c : Counts) (M : Lists) (t : Tables) (sp : Spells c M t) (n : Notice) 
   leaving-some x [] i = absurd i
   leaving-some x (k ∷ ks) i = refl
 
-  kept : Kept (M .terminated) (M .notices)
+  kept : NoticesKept (M .terminated) (M .notices)
   kept = its-kept c M t sp
 
   -- an effective call within the limit
@@ -142,8 +144,8 @@ module _ (c : Counts) (M : Lists) (t : Tables) (sp : Spells c M t) (n : Notice) 
       → noEffect again k x y M ≡ false
       → Agrees c t (leaving M (placed k y (record { who = x; due = u }) (dropped x (M .notices))))
       (if leb 5 k && idleAt a (y - c .heads) then cancelled m (x - c .heads) a
-      else made (scheduled m k (x - c .heads) (y - c .heads) (timeOf m a) u a))
-  unfolding scheduled
+      else made (putByClause m k (x - c .heads) (y - c .heads) (timeOf m (a .axis) (a .times)) u a))
+  unfolding putByClause
   effective again k x y u p g k6 ul ud f =
       test (leb 5 k && idleAt a (y - c .heads))
       (λ q.
@@ -153,10 +155,10 @@ module _ (c : Counts) (M : Lists) (t : Tables) (sp : Spells c M t) (n : Notice) 
       rw (q, not-placed k x y u l k6 h) (subst (λ (l : List Notice). Agrees c t (leaving M (dropped x l)) (cancelled m (x - c .heads) a)) (sym e) (drop-agrees c M t sp n ns e x (Party.proc p))))
       (λ q.
       let on : 5 ≤ k → In y (whos (dropped x (M .notices))) =
-      λ l. stands l (test (hasNotice y (M .notices)) (λ h. h) (λ h. clash (rw (le-leb 5 k l, idle-has c (M .notices) a spt y (g l), h) at q))) in
-      let s = place-spot c (dropped x (M .notices)) (dropOn m (x - c .heads) a) (drop-spells c (M .notices) a spt x p) (drop-sorted x (M .notices) (kept .in-order)) k y (timeOf m a) (record { who = x; due = u }) k6
+      λ l. stands l (test (hasNotice y (M .notices)) (λ h. h) (λ h. clash (sym (rw (le-leb 5 k l, idle-has c (M .notices) a spt y (g l), h) at q)))) in
+      let s = place-spot c (dropped x (M .notices)) (dropOn m (x - c .heads) a) (drop-spells c (M .notices) a spt x p) (drop-sorted x (M .notices) (kept .in-order)) k y (timeOf m (a .axis) (a .times)) (record { who = x; due = u }) k6
       on
-      (drop-from x (timeOf m a) (M .notices) (rw time-here (rw e (from-first n ns (rw e at (kept .in-order)))))) in
+      (drop-from x (timeOf m (a .axis) (a .times)) (M .notices) (rw time-here (rw e (from-first n ns (rw e at (kept .in-order)))))) in
       rw (q, leaving-some x (placed k y (record { who = x; due = u }) (dropped x (M .notices))) (ins-new (record { who = x; due = u }) (s .puts)))
       (refl, respell c M t sp _ _ (stays on s) (put-spells c (dropped x (M .notices)) (dropOn m (x - c .heads) a) (drop-spells c (M .notices) a spt x p) (record { who = x; due = u }) _ _ p (λ i. drop-gone x (M .notices) x i refl) s)))
     where
@@ -165,7 +167,7 @@ module _ (c : Counts) (M : Lists) (t : Tables) (sp : Spells c M t) (n : Notice) 
       not-true′ false q = refl
 
       stays : (5 ≤ k → In y (whos (dropped x (M .notices)))) → {q : ℕ} → Spot c (dropped x (M .notices)) (record { who = x; due = u }) q (placed k y (record { who = x; due = u }) (dropped x (M .notices)))
-          → Kept (M .terminated) (placed k y (record { who = x; due = u }) (dropped x (M .notices)))
+          → NoticesKept (M .terminated) (placed k y (record { who = x; due = u }) (dropped x (M .notices)))
       stays on s =
           kept-ins (M .terminated) (record { who = x; due = u }) (dropped x (M .notices)) (placed k y (record { who = x; due = u }) (dropped x (M .notices)))
           (s .puts)
@@ -182,7 +184,7 @@ module _ (c : Counts) (M : Lists) (t : Tables) (sp : Spells c M t) (n : Notice) 
 
   its-process : (again : Bool) (k x y : ℕ) → Party c x → noEffect again k x y M ≡ false → Process c x
   unfolding noEffect
-  its-process again k x y (Party.none q) f = clash (rw (eq-eqb x 0 q) at f)
+  its-process again k x y (Party.none q) f = clash (sym (rw (eq-eqb x 0 q) at f))
   its-process again k x y (Party.proc p) f = p
 
   pub timed-agrees : (again : Bool) (k x y : ℕ) (z : ℤ) → timedNeed c k x y ≡ true
@@ -202,4 +204,4 @@ module _ (c : Counts) (M : Lists) (t : Tables) (sp : Spells c M t) (n : Notice) 
     where
       or-need : (b d : Bool) → b ≡ true → (not b || d) ≡ true → d ≡ true
       or-need true d q r = r
-      or-need false d q r = clash (sym q)
+      or-need false d q r = clash q

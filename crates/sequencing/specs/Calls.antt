@@ -12,14 +12,11 @@ use Rattle.counts.specs.Counts.{total, isHead, isProcess, placeOf, linkageAt}
 use Rattle.model.specs.declared.answer.Answer.{Answer}
 use Rattle.model.specs.declared.answer.Answer.the-variants.{Linkage, Number, Truth, Refused}
 use Rattle.model.specs.Tables.{Tables, After}
-use Rattle.sets.specs.Calls.{orNone, telling}
+use Rattle.sets.specs.Calls.{orNone, toldIf}
 use Rattle.sets.specs.Procedures.{preceded}
 use Rattle.sequencing.specs.Plain.{above, timedNeed}
-use Rattle.sequencing.specs.Procedures.{Sqs, Outcome, made, turnedDown, firstOf, timeOf, sucOf, idleAt, lone, dropOn, held, passivated, cancelled, finishedMarks, activated}
-
--- P + 2
-abbrev pub half : Counts → ℕ
-half c = c .processes + 2
+use Rattle.sequencing.specs.Procedures.{Sqs, Outcome, made, turnedDown, nextOn, idleAt, lone, dropOn, held, passivated, cancelled, finishedMarks, activated}
+use Rattle.model.specs.Now.{half, timeOf, firstOf}
 
 -- ---- calls that change the sequencing set alone
 
@@ -48,7 +45,7 @@ pub record Marked : Type 0 where
 
 unfoldable pub finishStep : Counts → List ℕ → Sqs → Marked
 finishStep c marks a =
-    if eqb (firstOf (half c) a) 1 then record { outcome = turnedDown Operand a; marks = marks }
+    if eqb (firstOf (half c) (a .axis)) 1 then record { outcome = turnedDown Operand a; marks = marks }
     else record { outcome = passivated (half c) a; marks = finishedMarks (half c) marks a }
 
 -- ---- wait: "Wait(S) is into(S) by current, then passivate"; a refused wait does not enter the set
@@ -61,35 +58,35 @@ unfoldable pub waitStep : Counts → ℕ → List ℕ → Sqs → Waited
 waitStep c y links a =
     if orNone (isHead c y) y then
     (if lone (half c) a then record { links = links; outcome = turnedDown NoNotice a }
-    else record { links = preceded (total c + 1) (linkageAt c (firstOf (half c) a)) y links; outcome = made (dropOn (half c) (firstOf (half c) a) a) })
+    else record { links = preceded (total c + 1) (linkageAt c (firstOf (half c) (a .axis))) y links; outcome = made (dropOn (half c) (firstOf (half c) (a .axis)) a) })
     else record { links = links; outcome = turnedDown Operand a }
 
 -- ---- queries: a process is read, so none is refused
 
 unfoldable pub currentTold : Counts → Sqs → Answer
-currentTold c a = Linkage (linkageAt c (firstOf (half c) a))
+currentTold c a = Linkage (linkageAt c (firstOf (half c) (a .axis)))
 
 unfoldable pub timeTold : Counts → Sqs → Answer
-timeTold c a = Number (timeOf (half c) a)
+timeTold c a = Number (timeOf (half c) (a .axis) (a .times))
 
 -- "idle := EVENT == none"
 unfoldable pub idleTold : Counts → ℕ → Sqs → Answer
-idleTold c x a = telling (isProcess c x) (Truth (idleAt a (placeOf c x)))
+idleTold c x a = toldIf (isProcess c x) (Truth (idleAt a (placeOf c x)))
 
 unfoldable pub terminatedTold : Counts → ℕ → List ℕ → Answer
-terminatedTold c x marks = telling (isProcess c x) (Truth (eqb (getD marks (placeOf c x) 0) 1))
+terminatedTold c x marks = toldIf (isProcess c x) (Truth (eqb (getD marks (placeOf c x) 0) 1))
 
 -- "if idle then ERROR else evtime := EVENT.EVTIME": refusal 6
 unfoldable pub evtimeTold : Counts → ℕ → Sqs → Answer
 evtimeTold c x a =
-    telling (isProcess c x) (if idleAt a (placeOf c x) then Refused Idle else Number (getD (a .times) (placeOf c x) 0))
+    toldIf (isProcess c x) (if idleAt a (placeOf c x) then Refused Idle else Number (getD (a .times) (placeOf c x) 0))
 
 -- "nextev :- if idle then none else if EVENT.suc == none then none else EVENT.suc.PROC"
 unfoldable pub nextevTold : Counts → ℕ → Sqs → Answer
 nextevTold c x a =
-    telling (isProcess c x)
+    toldIf (isProcess c x)
     (if idleAt a (placeOf c x) then Linkage 0
-    else (if eqb (sucOf a (placeOf c x)) (half c - 1) then Linkage 0 else Linkage (linkageAt c (sucOf a (placeOf c x)))))
+    else (if eqb (nextOn a (placeOf c x)) (half c - 1) then Linkage 0 else Linkage (linkageAt c (nextOn a (placeOf c x)))))
 
 -- ---- on the whole model
 

@@ -1,10 +1,7 @@
 -- Tests on Bools.
-use mathlib.Core.Path.{_≡_, refl, sym}
+use mathlib.Core.Path.{_≡_, refl}
 use mathlib.Core.Bool.{Bool, true, false, _&&_}
-use Rattle.rings.specs.Lists as lists
-
-pub clash : {A : Type 0} → true ≡ false → A
-clash e = lists.clash (sym e)
+use Rattle.rings.specs.Lists.{clash}
 
 pub and-left : (a b : Bool) → (a && b) ≡ true → a ≡ true
 and-left true b e = refl
@@ -12,4 +9,4 @@ and-left false b e = e
 
 pub and-right : (a b : Bool) → (a && b) ≡ true → b ≡ true
 and-right true b e = e
-and-right false b e = clash (sym e)
+and-right false b e = clash e

@@ -17,7 +17,7 @@ pub mod Published
 pub mod RankLaws
 pub mod Promise
 pub mod Sign
-pub mod Kept
+pub mod NoticesKept
 pub mod Agree
 pub mod AgreeEnds
 pub mod PlacedLaws

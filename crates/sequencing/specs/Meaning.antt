@@ -11,8 +11,7 @@ use lib.Dec.{eqb, leb}
 use lib.IntN.{ℤ}
 use lib.ListN.{length}
 use borrow.Author.Tests.{eq-eqb, ne-eqb, le-leb, lt-leb, leb-false, lt-ltb}
-use Rattle.rings.specs.Lists.{decide, test}
-use Rattle.rings.specs.Lists as lists
+use Rattle.rings.specs.Lists.{decide, test, clash}
 use Rattle.counts.specs.declared.Counts.{Counts}
 use Rattle.counts.specs.declared.Refusal.the-variants.{Operand, NoNotice}
 use Rattle.counts.specs.Counts.{total, main, isHead, isProcess, isLink}
@@ -30,13 +29,14 @@ use Rattle.sets.specs.Laws.{sets-preceded}
 use Rattle.sets.specs.Meaning.{called-is, link-of, withSets}
 use Rattle.sequencing.specs.NoticeOps.{first}
 use Rattle.sequencing.specs.Plain.{Result, refused, done, current, above, hold, passivate, wait, cancel, finish, dueFor, placed, noEffect, timedNeed, timed}
-use Rattle.sequencing.specs.Procedures.{Sqs, Outcome, made, turnedDown, firstOf, lone, dropOn, passivated, activated}
-use Rattle.sequencing.specs.Calls.{Marked, holdStep, passivateStep, cancelStep, timedStep, finishStep, waitStep, onSqs, onMarks, onSets}
-use Rattle.sequencing.specs.Places.{half, Process}
-use Rattle.sequencing.specs.Agree.{sqsOf, withSqs, withMarks, Agrees, AgreesMarked, st, first-is, process-first, hold-agrees}
+use Rattle.sequencing.specs.Procedures.{Sqs, Outcome, made, turnedDown, lone, dropOn, passivated, activated}
+use Rattle.sequencing.specs.Calls.{sqsOf, Marked, holdStep, passivateStep, cancelStep, timedStep, finishStep, waitStep, onSqs, onMarks, onSets}
+use Rattle.sequencing.specs.Places.{Process}
+use Rattle.sequencing.specs.Agree.{withSqs, withMarks, Agrees, AgreesMarked, st, first-is, process-first, hold-agrees}
 use Rattle.sequencing.specs.AgreeEnds.{passivate-agrees, cancel-agrees, finish-agrees, lone-leaves, wait-agrees}
 use Rattle.sequencing.specs.Replace.{timedDropFirst, drop-first}
 use Rattle.sequencing.specs.AgreeTimed.{timed-agrees}
+use Rattle.model.specs.Now.{firstOf, half}
 
 -- the call does what the plain call does
 abbrev pub Follows : Counts → Tables → Result Lists → After Answer → Type 0
@@ -64,9 +64,9 @@ timed-plain c again k x y z l h =
     rw (lt-leb 5 k h, ne-eqb k 5 (λ e. omega arith), ne-eqb k 6 (λ e. omega arith))
 
 -- main can't finish
-main-refused : (c : Counts) (k : List ℕ) (a : Sqs) → firstOf (half c) a ≡ 1 → finishStep c k a ≡ record { outcome = turnedDown Operand a; marks = k }
+main-refused : (c : Counts) (k : List ℕ) (a : Sqs) → firstOf (half c) (a .axis) ≡ 1 → finishStep c k a ≡ record { outcome = turnedDown Operand a; marks = k }
 unfolding finishStep
-main-refused c k a f = rw (eq-eqb (firstOf (half c) a) 1 f)
+main-refused c k a f = rw (eq-eqb (firstOf (half c) (a .axis)) 1 f)
 
 plain-refused : (c : Counts) (l : Lists) → current l ≡ main c → finish c l ≡ refused Operand
 unfolding finish
@@ -124,7 +124,7 @@ module _ (c : Counts) (l : Lists) (t : Tables) (w : Sized c t) (s : Spells c l t
   timed-off again k x y z g = rw g (refl, refl)
 
   -- current's place
-  place-first : firstOf (half c) (sqsOf t) ≡ n .who - c .heads
+  place-first : firstOf (half c) (t .axis) ≡ n .who - c .heads
   place-first = first-is c n ns (sqsOf t) (st c l t s n ns e)
 
   first-process : Process c (n .who)
@@ -135,7 +135,7 @@ module _ (c : Counts) (l : Lists) (t : Tables) (w : Sized c t) (s : Spells c l t
 
   finish-main : current l ≡ main c → Follows c t (finish c l) (onMarks (λ k a. finishStep c k a) t)
   finish-main q =
-      let f : firstOf (half c) (sqsOf t) ≡ 1 = omega (arith, place-first, current-is, q) in
+      let f : firstOf (half c) (t .axis) ≡ 1 = omega (arith, place-first, current-is, q) in
       subst (λ (r : Result Lists). Follows c t r (onMarks (λ k a. finishStep c k a) t)) (sym (plain-refused c l q))
       (subst
       (λ (o : Marked). Follows c t (refused Operand) (record {
@@ -147,9 +147,9 @@ module _ (c : Counts) (l : Lists) (t : Tables) (w : Sized c t) (s : Spells c l t
   finish-other : current l ≢ main c → Follows c t (finish c l) (onMarks (λ k a. finishStep c k a) t)
   unfolding finishStep
   finish-other q =
-      let f : firstOf (half c) (sqsOf t) ≢ 1 = λ z. q (omega (arith, place-first, current-is, first-process)) in
+      let f : firstOf (half c) (t .axis) ≢ 1 = λ z. q (omega (arith, place-first, current-is, first-process)) in
       let g : not (eqb (current l) (main c)) ≡ true = ap not (ne-eqb (current l) (main c) q) in
-      rw (ne-eqb (firstOf (half c) (sqsOf t)) 1 f) (follows-marks c t (finish c l) _ _ (finish-agrees c l t s n ns e g))
+      rw (ne-eqb (firstOf (half c) (t .axis)) 1 f) (follows-marks c t (finish c l) _ _ (finish-agrees c l t s n ns e g))
 
   -- ---- wait
 
@@ -189,24 +189,24 @@ module _ (c : Counts) (l : Lists) (t : Tables) (w : Sized c t) (s : Spells c l t
   wait-on : (y : ℕ) → orNone (isHead c y) y ≡ true → lone (half c) (sqsOf t) ≡ false → Follows c t (wait c y l) (onSets (λ k a. waitStep c y k a) t)
   unfolding waitStep passivated
   wait-on y g q =
-      let here : c .heads + firstOf (half c) (sqsOf t) ≡ current l = omega (arith, place-first, current-is, first-process) in
+      let here : c .heads + firstOf (half c) (t .axis) ≡ current l = omega (arith, place-first, current-is, first-process) in
       let u : Tables = record { links = preceded (total c + 1) (current l) y (t .links); axis = t .axis; times = t .times; marks = t .marks } in
       let a = wait-agrees c (withSets l (precedeSets (current l) y (l .sets))) u (entered y g) n ns e y l g refl in
       rw (g, q, here) (waited (wait c y l) (rw q at a))
     where
       waited : (r : Result Lists)
           → Agrees c (record { links = preceded (total c + 1) (current l) y (t .links); axis = t .axis; times = t .times; marks = t .marks }) r
-          (made (dropOn (half c) (firstOf (half c) (sqsOf t)) (sqsOf t)))
+          (made (dropOn (half c) (firstOf (half c) (t .axis)) (sqsOf t)))
           → Follows c t r (record {
             tables = record {
               links = preceded (total c + 1) (current l) y (t .links);
-              axis = dropOn (half c) (firstOf (half c) (sqsOf t)) (sqsOf t) .axis;
-              times = dropOn (half c) (firstOf (half c) (sqsOf t)) (sqsOf t) .times;
+              axis = dropOn (half c) (firstOf (half c) (t .axis)) (sqsOf t) .axis;
+              times = dropOn (half c) (firstOf (half c) (t .axis)) (sqsOf t) .times;
               marks = t .marks;
             };
             answer = Done;
           })
-      waited (refused r) k = let z : false ≡ true = cc in lists.clash z
+      waited (refused r) k = let z : false ≡ true = cc in clash z
       waited (done m) k = k
 
   pub cancel-means : (x : ℕ) → Follows c t (cancel c x l) (called c (onSqs (λ k a. cancelStep c x a)) t)

@@ -8,11 +8,10 @@ use native.Mathlib.Omega.{arith}
 use lib.Dec.{eqb, leb}
 use lib.IntN.{ℤ}
 use borrow.Author.Tests.{eq-eqb, ne-eqb, eqb-true, le-leb}
-use Rattle.rings.specs.Lists.{In, test}
+use Rattle.rings.specs.Lists.{clash, In, test}
 use Rattle.rings.specs.Tabulate.{has, in-has}
 use Rattle.model.specs.Notices.{Notice, whos, dueOf, InOrder}
 use Rattle.model.specs.Tables.{Lists}
-use Rattle.sequencing.specs.Choice.{clash}
 use Rattle.sequencing.specs.NoticeOps.{hasNotice}
 use Rattle.sequencing.specs.Plain.{dueFor, placed, noEffect}
 use Rattle.sequencing.specs.PutLaws.{last-sorted, front-sorted}
@@ -39,20 +38,20 @@ or-first true b e = e
 or-first false b e = refl
 
 or-second : (a b : Bool) → (a || b) ≡ false → b ≡ false
-or-second true b e = clash e
+or-second true b e = clash (sym e)
 or-second false b e = e
 
 -- an effective call is not of a terminated process
 pub not-ended : (again : Bool) (k x y : ℕ) (l : Lists) → noEffect again k x y l ≡ false → In x (l .terminated) → ⊥
 unfolding noEffect
 not-ended again k x y l e i =
-    clash (sym (in-has x (l .terminated) i) ∙ or-second (eqb x 0) _ (or-first (eqb x 0 || has x (l .terminated)) _ e))
+    clash (sym (or-second (eqb x 0) _ (or-first (eqb x 0 || has x (l .terminated)) _ e)) ∙ in-has x (l .terminated) i)
 
 -- nor of none
 pub not-none : (again : Bool) (k x y : ℕ) (l : Lists) → noEffect again k x y l ≡ false → x ≢ 0
 unfolding noEffect
 not-none again k x y l e q =
-    clash (sym (eq-eqb x 0 q) ∙ or-first (eqb x 0) _ (or-first (eqb x 0 || has x (l .terminated)) _ e))
+    clash (sym (or-first (eqb x 0) _ (or-first (eqb x 0 || has x (l .terminated)) _ e)) ∙ eq-eqb x 0 q)
 
 -- its X is not its Y, where that has a notice
 pub others-y : (again : Bool) (k x y : ℕ) (l : Lists) → 5 ≤ k → noEffect again k x y l ≡ false → hasNotice y (l .notices) ≡ true → y ≢ x
@@ -60,7 +59,7 @@ unfolding noEffect
 others-y again k x y l k5 f h q =
     let r : hasNotice x (l .notices) && (not again || (leb 5 k && eqb x y)) ≡ false = or-second (eqb x 0 || has x (l .terminated)) _ f in
     let hx : hasNotice x (l .notices) ≡ true = subst (λ (z : ℕ). hasNotice z (l .notices) ≡ true) q h in
-    clash (sym (or-true again) ∙ (rw (hx, le-leb 5 k k5, eq-eqb x y (sym q)) at r))
+    clash (sym (rw (hx, le-leb 5 k k5, eq-eqb x y (sym q)) at r) ∙ or-true again)
   where
     or-true : (b : Bool) → (not b || true) ≡ true
     or-true true = refl

@@ -23,10 +23,7 @@ use Rattle.sequencing.specs.NoticeLaws.{drop-due}
 use Rattle.model.specs.Reading.{Timed, timed as timed-by, who-place, dist-whos}
 use Rattle.sequencing.specs.Procedures.{Sqs, dropOn}
 use Rattle.sequencing.specs.ByDue.{listed-set, due-dropped, places-in}
-
--- P + 2
-abbrev pub half : Counts → ℕ
-half c = c .processes + 2
+use Rattle.model.specs.Now.{half}
 
 pub record SpellsTime (c : Counts) (ns : List Notice) (a : Sqs) : Type 0 where
   pub axis : SpellsAxis (half c) (places c ns) (a .axis)

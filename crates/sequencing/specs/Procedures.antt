@@ -14,6 +14,7 @@ use Rattle.counts.specs.declared.Refusal.the-variants.{NoNotice, TimeLimit}
 use Rattle.counts.specs.Counts.{limit}
 use Rattle.model.specs.declared.answer.Answer.{Answer}
 use Rattle.model.specs.declared.answer.Answer.the-variants.{Done, Refused}
+use Rattle.model.specs.Now.{timeOf, firstOf}
 
 -- the sequencing set: two lent tables
 pub record Sqs : Type 0 where
@@ -33,25 +34,19 @@ turnedDown r a = record { answer = Refused r; left = a }
 
 -- ---- reading
 
--- FIRSTEV, time, suc, and idle
-abbrev pub firstOf : ℕ → Sqs → ℕ
-firstOf m a = getD (a .axis) (m - 1) 0
+-- suc, pred and idle
+abbrev pub nextOn : Sqs → ℕ → ℕ
+nextOn a x = getD (a .axis) x 0
 
-abbrev pub timeOf : ℕ → Sqs → ℕ
-timeOf m a = getD (a .times) (firstOf m a) 0
-
-abbrev pub sucOf : Sqs → ℕ → ℕ
-sucOf a x = getD (a .axis) x 0
-
-abbrev pub predOf : ℕ → Sqs → ℕ → ℕ
-predOf m a x = getD (a .axis) (m + x) 0
+abbrev pub prevOn : ℕ → Sqs → ℕ → ℕ
+prevOn m a x = getD (a .axis) (m + x) 0
 
 abbrev pub idleAt : Sqs → ℕ → Bool
-idleAt a x = eqb (sucOf a x) 0
+idleAt a x = eqb (nextOn a x) 0
 
 -- there is no second notice
 abbrev pub lone : ℕ → Sqs → Bool
-lone m a = eqb (sucOf a (firstOf m a)) (m - 1)
+lone m a = eqb (nextOn a (firstOf m (a .axis))) (m - 1)
 
 -- behind which place a notice stands in front of all from w on: RANK's place, looked for from both ends at once, with at most k steps each;
 -- f goes on from the first, b back from the last
@@ -63,7 +58,7 @@ seekFrom m times w t (suc k) f b =
     else (if leb w (getD times f 0) then getD t (m + f) 0 else seekFrom m times w t k (getD t f 0) (getD t (m + b) 0)))
 
 unfoldable pub found : ℕ → ℕ → Sqs → ℕ
-found m w a = seekFrom m (a .times) w (a .axis) m (firstOf m a) (predOf m a (m - 1))
+found m w a = seekFrom m (a .times) w (a .axis) m (firstOf m (a .axis)) (prevOn m a (m - 1))
 
 -- ---- the statements
 
@@ -84,18 +79,18 @@ ranked m x u a = putOn m x (found m (suc u) a) u a
 -- EVTIME:= u; if suc =/= none then if suc.EVTIME <= EVTIME then out; RANK (false)
 unfoldable pub heldAt : ℕ → ℕ → ℕ → Sqs → Sqs
 heldAt m x u a =
-    if eqb (sucOf a x) (m - 1) then record { axis = a .axis; times = set (a .times) x u }
-    else if ltb u (getD (a .times) (sucOf a x) 0) then record { axis = a .axis; times = set (a .times) x u }
+    if eqb (nextOn a x) (m - 1) then record { axis = a .axis; times = set (a .times) x u }
+    else if ltb u (getD (a .times) (nextOn a x) 0) then record { axis = a .axis; times = set (a .times) x u }
     else ranked m x u (dropOn m x a)
 
 abbrev pub heldTo : ℕ → ℕ → Sqs → Sqs
-heldTo m u a = heldAt m (firstOf m a) u a
+heldTo m u a = heldAt m (firstOf m (a .axis)) u a
 
 unfoldable pub held : ℕ → ℕ → Sqs → Outcome
-held m d a = if leb (timeOf m a + d) limit then made (heldTo m (timeOf m a + d) a) else turnedDown TimeLimit a
+held m d a = if leb (timeOf m (a .axis) (a .times) + d) limit then made (heldTo m (timeOf m (a .axis) (a .times) + d) a) else turnedDown TimeLimit a
 
 unfoldable pub passivated : ℕ → Sqs → Outcome
-passivated m a = if lone m a then turnedDown NoNotice a else made (dropOn m (firstOf m a) a)
+passivated m a = if lone m a then turnedDown NoNotice a else made (dropOn m (firstOf m (a .axis)) a)
 
 unfoldable pub cancelled : ℕ → ℕ → Sqs → Outcome
 cancelled m x a = if idleAt a x then made a else if lone m a then turnedDown NoNotice a else made (dropOn m x a)
@@ -118,25 +113,25 @@ dueAt k y d now times =
 -- where X's old notice is gone: behind which place the new one stands
 unfoldable pub placeFor : ℕ → ℕ → ℕ → ℕ → ℕ → Sqs → ℕ
 placeFor m k y now u a =
-    if eqb k 5 then predOf m a y
+    if eqb k 5 then prevOn m a y
     else if eqb k 6 then y
     else if eqb k 1 || eqb k 2 then found m (suc u) a
     else if eqb u now then m - 1
     else found m u a
 
 -- X's old notice goes, and the new one stands where the clause says
-unfoldable pub scheduled : ℕ → ℕ → ℕ → ℕ → ℕ → ℕ → Sqs → Sqs
-scheduled m k x y now u a = putOn m x (placeFor m k y now u (dropOn m x a)) u (dropOn m x a)
+unfoldable pub putByClause : ℕ → ℕ → ℕ → ℕ → ℕ → ℕ → Sqs → Sqs
+putByClause m k x y now u a = putOn m x (placeFor m k y now u (dropOn m x a)) u (dropOn m x a)
 
 -- ACTIVATE. Beside an idle Y nothing is scheduled, and X's notice goes
 unfoldable pub activated : ℕ → Bool → ℕ → ℕ → ℕ → ℕ → List ℕ → Sqs → Outcome
 activated m again k x y d marks a =
     if vain again k x y marks (a .axis) then made a
-    else if leb (dueAt k y d (timeOf m a) (a .times)) limit then
+    else if leb (dueAt k y d (timeOf m (a .axis) (a .times)) (a .times)) limit then
     (if leb 5 k && idleAt a y then cancelled m x a
-    else made (scheduled m k x y (timeOf m a) (dueAt k y d (timeOf m a) (a .times)) a))
+    else made (putByClause m k x y (timeOf m (a .axis) (a .times)) (dueAt k y d (timeOf m (a .axis) (a .times)) (a .times)) a))
     else turnedDown TimeLimit a
 
 -- finish is passivate, and TERMINATED:= true before it
 unfoldable pub finishedMarks : ℕ → List ℕ → Sqs → List ℕ
-finishedMarks m marks a = if lone m a then marks else set marks (firstOf m a) 1
+finishedMarks m marks a = if lone m a then marks else set marks (firstOf m (a .axis)) 1

@@ -16,6 +16,7 @@ use Rattle.model.specs.Tables.{Tables}
 use Rattle.model.specs.Ready.{Ready}
 use Rattle.model.specs.declared.answer.Answer.{Answer}
 use Rattle.sequencing.specs.Procedures.{Sqs, Outcome, vain, dueAt}
+use Rattle.model.specs.Now.{firstOf, half}
 
 abbrev pub sqs : List ℕ → List ℕ → Sqs
 sqs a t = record { axis = a; times = t }
@@ -103,29 +104,29 @@ pub record First (m x : ℕ) (axis times : List ℕ) : Type 0 where
 
 -- the place behind the head is the first
 abbrev pub Led : ℕ → List ℕ → List ℕ → Type 0
-Led m a t = First m (getD a (m - 1) 0) a t
+Led m a t = First m (firstOf m a) a t
 
 -- x's notice is the first, and this is its time
 pub record Noticed (m x time : ℕ) (axis times : List ℕ) : Type 0 where
-  pub place : Place m (getD axis (m - 1) 0) x
+  pub place : Place m (firstOf m axis) x
   pub read : Read x times time
   pub within : time ≤ limit
 
-pub first-at : (m x : ℕ) (a t : List ℕ) → Led m a t → Place m (getD a (m - 1) 0) x → First m x a t
+pub first-at : (m x : ℕ) (a t : List ℕ) → Led m a t → Place m (firstOf m a) x → First m x a t
 first-at m x a t l p = subst (λ (y : ℕ). First m y a t) (sym (p .is)) l
 
 -- ---- what a judged model gives the calls: limits, a sound axis, and a first notice
 
 pub record Judged (c : Counts) (axis : List ℕ) : Type 0 where
   pub allowed : Allowed c
-  pub sound : Sound (c .processes + 2) axis
-  pub first-some : 0 < getD axis (c .processes + 1) 0
-  pub first-in : getD axis (c .processes + 1) 0 ≤ c .processes
+  pub sound : Sound (half c) axis
+  pub first-some : 0 < firstOf (half c) axis
+  pub first-in : firstOf (half c) axis ≤ c .processes
 
 -- and those that take the first notice away: that it stands behind the head
 pub record Takeable (c : Counts) (axis times : List ℕ) : Type 0 where
   pub judged : Judged c axis
-  pub first-led : Led (c .processes + 2) axis times
+  pub first-led : Led (half c) axis times
 
 module _ (c : Counts) (t : Tables) (r : Ready c t) where
   pub ready-judged : Judged c (t .axis)
@@ -133,16 +134,14 @@ module _ (c : Counts) (t : Tables) (r : Ready c t) where
 
   pub ready-takeable : Takeable c (t .axis) (t .times)
   ready-takeable =
-      let head : c .processes + 1 ≡ c .processes + 2 - 1 = omega arith in
       record {
         judged = ready-judged;
         first-led =
-            subst (λ (i : ℕ). First (c .processes + 2) (getD (t .axis) i 0) (t .axis) (t .times)) head
-            (record {
+            record {
               within = omega (arith, r .first-in);
               small = omega (arith, r .allowed .processes-in);
-              led = r .first-led ∙ head;
+              led = r .first-led;
               timed = omega (arith, r .first-in, r .lengths .times-is);
               full = omega (arith, r .lengths .times-is);
-            });
+            };
       }

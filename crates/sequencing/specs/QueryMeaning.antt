@@ -21,24 +21,25 @@ use Rattle.model.specs.declared.answer.Answer.the-variants.{Linkage, Number, Tr
 use Rattle.model.specs.Notices.{Notice, whos, places, dueOf}
 use Rattle.model.specs.Tables.{Tables, Lists, Sized, Spells}
 use Rattle.model.specs.Answers.{asked}
-use Rattle.sets.specs.Calls.{telling}
+use Rattle.sets.specs.Calls.{toldIf}
 use Rattle.sets.specs.Meaning.{asked-is}
 use Rattle.sequencing.specs.NoticeOps.{hasNotice, first}
 use Rattle.sequencing.specs.Plain.{current, time}
 use Rattle.sequencing.specs.Procedures.{Sqs, idleAt}
-use Rattle.sequencing.specs.Calls.{currentTold, timeTold, idleTold, terminatedTold, evtimeTold, nextevTold}
+use Rattle.sequencing.specs.Calls.{sqsOf, currentTold, timeTold, idleTold, terminatedTold, evtimeTold, nextevTold}
 use Rattle.model.specs.Reading.{who-place}
-use Rattle.sequencing.specs.Places.{half, SpellsTime, Process, chain, off-head, is-process, times-at, member}
-use Rattle.sequencing.specs.Agree.{sqsOf, its-time, st, first-is, process-first, time-is}
+use Rattle.sequencing.specs.Places.{SpellsTime, Process, chain, off-head, is-process, times-at, member}
+use Rattle.sequencing.specs.Agree.{its-time, st, first-is, process-first, time-is}
 use Rattle.sequencing.specs.AgreeEnds.{Party, has-in, idle-has}
 use Rattle.sequencing.specs.AgreeTimed.{marks-at}
 use Rattle.sequencing.specs.Meaning.{split}
+use Rattle.model.specs.Now.{half}
 
 -- the process of the notice after x's, none where x's is the last
-abbrev pub nextOf : ℕ → List Notice → ℕ
-nextOf x [] = 0
-nextOf x (k ∷ []) = 0
-nextOf x (k ∷ j ∷ js) = if eqb (k .who) x then j .who else nextOf x (j ∷ js)
+abbrev pub nextAfter : ℕ → List Notice → ℕ
+nextAfter x [] = 0
+nextAfter x (k ∷ []) = 0
+nextAfter x (k ∷ j ∷ js) = if eqb (k .who) x then j .who else nextAfter x (j ∷ js)
 
 -- what evtime tells
 abbrev pub evtimeOf : ℕ → List Notice → Answer
@@ -46,12 +47,12 @@ evtimeOf x ns = if hasNotice x ns then Number (dueOf x ns) else Refused Idle
 
 -- what nextev tells: none for an idle process
 abbrev pub nextevOf : ℕ → List Notice → Answer
-nextevOf x ns = if hasNotice x ns then Linkage (nextOf x ns) else Linkage 0
+nextevOf x ns = if hasNotice x ns then Linkage (nextAfter x ns) else Linkage 0
 
 -- along the chain of the axis, whose end e is the head
 next-chain : (S P : ℕ → ℕ) (c : Counts) (a : ℕ) (ns : List Notice) (e x : ℕ) → Chain S P a (places c ns) e → ((y : ℕ) → In y (places c ns) → y ≢ e)
     → ((y : ℕ) → In y (whos ns) → c .heads < y) → In x (whos ns)
-    → (if eqb (S (x - c .heads)) e then Linkage 0 else Linkage (linkageAt c (S (x - c .heads)))) ≡ Linkage (nextOf x ns)
+    → (if eqb (S (x - c .heads)) e then Linkage 0 else Linkage (linkageAt c (S (x - c .heads)))) ≡ Linkage (nextAfter x ns)
 next-chain S P c a [] e x ch f h i = absurd i
 next-chain S P c a (k ∷ []) e x ch f h (inl q) = rw (ap (λ (j : ℕ). S (j - c .heads)) q ∙ ch .1 .next, eq-eqb e e refl)
 next-chain S P c a (k ∷ []) e x ch f h (inr i) = absurd i
@@ -71,7 +72,7 @@ bit-is : (b : Bool) → eqb (bit b) 1 ≡ b
 bit-is true = refl
 bit-is false = refl
 
-told-is : (b : Bool) (a r : Answer) → b ≡ true → a ≡ r → telling b a ≡ r
+told-is : (b : Bool) (a r : Answer) → b ≡ true → a ≡ r → toldIf b a ≡ r
 told-is b a r e f = rw e f
 
 process-of : (c : Counts) (x : ℕ) → isProcess c x ≡ true → Process c x
@@ -147,7 +148,7 @@ module _ (c : Counts) (l : Lists) (t : Tables) (w : Sized c t) (s : Spells c l t
         let at : sucs (half c) (t .axis) (x - c .heads) ≡ getD (t .axis) (x - c .heads) 0 =
         getD-take (half c) (t .axis) (x - c .heads) 0 (member c (l .notices) a spt (x - c .heads) (who-place c (l .notices) x i) .within) in
         rw (idle-is, h)
-        (subst (λ (v : ℕ). (if eqb v (half c - 1) then Linkage 0 else Linkage (linkageAt c v)) ≡ Linkage (nextOf x (l .notices))) at
+        (subst (λ (v : ℕ). (if eqb v (half c - 1) then Linkage 0 else Linkage (linkageAt c v)) ≡ Linkage (nextAfter x (l .notices))) at
         (next-chain (sucs (half c) (t .axis)) (pres (half c) (t .axis)) c (half c - 1) (l .notices) (half c - 1) x (chain c (l .notices) a spt)
         (off-head c (l .notices) a spt) (λ y m. is-process c (l .notices) a spt y m .over) i)))
         (λ h. rw (idle-is, h)))

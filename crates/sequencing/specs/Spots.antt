@@ -20,10 +20,11 @@ use Rattle.sequencing.specs.NoticeOps.{before, after}
 use Rattle.sequencing.specs.NoticeLaws.{Ins, ins-due, ins-own}
 use Rattle.sequencing.specs.BesideLaws.{before-ins, after-ins}
 use Rattle.model.specs.Reading.{who-place, length-places}
-use Rattle.sequencing.specs.Procedures.{Sqs, predOf, seekFrom, found, putOn}
+use Rattle.sequencing.specs.Procedures.{Sqs, prevOn, seekFrom, found, putOn}
 use Rattle.sequencing.specs.Seek.{seek-finds}
 use Rattle.sequencing.specs.ByDue.{byDue, by-ins, spotIn, spot-on, behind-spot}
-use Rattle.sequencing.specs.Places.{half, SpellsTime, Process, head, chain, member, off-head, dist-all, is-process, a-link, timed, unlinked-is, times-set}
+use Rattle.sequencing.specs.Places.{SpellsTime, Process, head, chain, member, off-head, dist-all, is-process, a-link, timed, unlinked-is, times-set}
+use Rattle.model.specs.Now.{half}
 
 -- ---- a notice is linked behind the place q
 
@@ -59,7 +60,7 @@ module _ (c : Counts) (ns : List Notice) (a : Sqs) (sp : SpellsTime c ns a) wher
   pub seek-is : (w : ℕ) → InOrder ns → found (half c) w a ≡ spotIn c w (half c - 1) ns
   unfolding found
   seek-is w o =
-      ap (λ (f : ℕ). seekFrom (half c) (a .times) w (a .axis) (half c) f (predOf (half c) a (half c - 1))) (sym (getD-take (half c) (a .axis) (half c - 1) 0 (omega arith)))
+      ap (λ (f : ℕ). seekFrom (half c) (a .times) w (a .axis) (half c) f (prevOn (half c) a (half c - 1))) (sym (getD-take (half c) (a .axis) (half c - 1) 0 (omega arith)))
       ∙ seek-finds c (half c) (a .times) w (a .axis) (half c) (half c - 1) ns (half c - 1) (record { links = chain c ns a sp; due = timed c ns a sp; order = o; off = λ y i. (member c ns a sp y i .within, off-head c ns a sp y i) }) (inl refl) few
 
   pub found-spot : (n : Notice) (w : ℕ) → InOrder ns → Spot c ns n (found (half c) w a) (byDue w n ns)
@@ -93,7 +94,7 @@ module _ (c : Counts) (ns : List Notice) (a : Sqs) (sp : SpellsTime c ns a) wher
           (go (k .who - c .heads) ks (λ q. g (omega (arith, f (k .who) (inl refl)))) (d .1) (λ z j. f z (inr j)) h)))
 
   -- right before y: behind its predecessor
-  pub before-spot : (n : Notice) (y : ℕ) → In y (whos ns) → Spot c ns n (predOf (half c) a (y - c .heads)) (before y n ns)
+  pub before-spot : (n : Notice) (y : ℕ) → In y (whos ns) → Spot c ns n (prevOn (half c) a (y - c .heads)) (before y n ns)
   before-spot n y i =
       let q = y - c .heads in
       let S = sucs (half c) (a .axis) in

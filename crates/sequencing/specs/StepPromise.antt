@@ -20,8 +20,9 @@ use Rattle.sets.specs.Procedures.{preceded}
 use Rattle.sets.specs.Promise.{none-or}
 use Rattle.sequencing.specs.Plain.{timedNeed}
 use Rattle.sequencing.specs.Procedures.{Sqs, Outcome, made, turnedDown, dropOn, passivated, finishedMarks}
-use Rattle.sequencing.specs.Calls.{half, yPlace, Marked, Waited, finishStep, waitStep}
+use Rattle.sequencing.specs.Calls.{yPlace, Marked, Waited, finishStep, waitStep}
 use Rattle.sequencing.specs.Promise.{sqs, Left, Answers, AnswersMarked, Place, Lone, Judged}
+use Rattle.model.specs.Now.{firstOf, half}
 
 pub record FinishMade (c : Counts) (want : Marked) (axis times marks : List ℕ) (r : Answer) : Type 0 where
   pub is : record { outcome = record { answer = r; left = sqs axis times }; marks = marks } ≡ want
@@ -101,16 +102,14 @@ module _ (c : Counts) (axis times marks : List ℕ) (f : ℕ) (p : Place (half c
   finish-other a t k r n w =
       record {
         is =
-            rw (ne-eqb (getD axis (half c - 1) 0) 1 (λ e. n (p .is ∙ e)))
+            rw (ne-eqb (firstOf (half c) axis) 1 (λ e. n (p .is ∙ e)))
             (ap₂ (λ (o : Outcome) (j : List ℕ). record { outcome = o; marks = j }) (w .is) (w .marked));
         sound = w .sound;
       }
 
 -- the first notice is a process's
-pub first-low : (c : Counts) (axis : List ℕ) → Judged c axis → (f : ℕ) → Place (half c) (getD axis (half c - 1) 0) f → f ≤ c .processes
-first-low c axis j f p =
-    let e : half c - 1 ≡ c .processes + 1 = omega arith in
-    omega (arith, j .first-in, p .is ∙ ap (λ (i : ℕ). getD axis i 0) e)
+pub first-low : (c : Counts) (axis : List ℕ) → Judged c axis → (f : ℕ) → Place (half c) (firstOf (half c) axis) f → f ≤ c .processes
+first-low c axis j f p = omega (arith, j .first-in, p .is)
 
 -- ---- wait
 

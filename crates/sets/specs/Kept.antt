@@ -15,19 +15,19 @@ use Rattle.model.specs.Tables.{Tables}
 use Rattle.model.specs.Judge.{judged}
 use Rattle.model.specs.Answers.{turning, called}
 use Rattle.sets.specs.Procedures.{followed, preceded, cleared}
-use Rattle.sets.specs.Calls.{moving, orNone, onLinks, outStep, followStep, precedeStep, intoStep, clearStep}
+use Rattle.sets.specs.Calls.{linkedIf, orNone, onLinks, outStep, followStep, precedeStep, intoStep, clearStep}
 
-moving-kept : (b : Bool) (t u : List ℕ) (r : Refusal) → moving b t u .answer ≡ Refused r → moving b t u .links ≡ t
+moving-kept : (b : Bool) (t u : List ℕ) (r : Refusal) → linkedIf b t u .answer ≡ Refused r → linkedIf b t u .links ≡ t
 moving-kept true t u r e = let z : false ≡ true = cc in clash z
 moving-kept false t u r e = refl
 
 -- a call on the links by one test
 set-kept : (c : Counts) (b : Bool) (u : List ℕ → List ℕ) (t : Tables) (r : Refusal)
-    → called c (onLinks (λ v. moving b v (u v))) t .answer ≡ Refused r → called c (onLinks (λ v. moving b v (u v))) t .tables ≡ t
+    → called c (onLinks (λ v. linkedIf b v (u v))) t .answer ≡ Refused r → called c (onLinks (λ v. linkedIf b v (u v))) t .tables ≡ t
 unfolding called
 set-kept c b u t r e = go (judged c t) e
   where
-    go : (v : Verdict) → turning v t (onLinks (λ v. moving b v (u v)) t) .answer ≡ Refused r → turning v t (onLinks (λ v. moving b v (u v)) t) .tables ≡ t
+    go : (v : Verdict) → turning v t (onLinks (λ v. linkedIf b v (u v)) t) .answer ≡ Refused r → turning v t (onLinks (λ v. linkedIf b v (u v)) t) .tables ≡ t
     go Fine q =
         ap (λ (l : List ℕ). record { links = l; axis = t .axis; times = t .times; marks = t .marks }) (moving-kept b (t .links) (u (t .links)) r q)
     go (Turned p) q = refl

@@ -13,10 +13,10 @@ use Rattle.rings.specs.Stores.{sucs, pres, suc-at}
 use Rattle.rings.specs.Spell.{spells-cong, spells-unlinked, spells-behind, spells-before}
 use Rattle.rings.specs.Spell as ring
 use Rattle.model.specs.Tables.{setHead, membersOf, SpellsSets}
-use Rattle.sets.specs.Sets.{onSets, outSets, putBehind, putAhead, followSets, precedeSets}
+use Rattle.sets.specs.Sets.{eachSet, outSets, putBehind, putAhead, followSets, precedeSets}
 use Rattle.sets.specs.Procedures.{followed, preceded}
 use Rattle.sets.specs.Moves.{follow-none, follow-off, follow-on, precede-none, precede-off, precede-on, followed-is, preceded-is}
-use Rattle.sets.specs.OnSets.{length-on, getD-on, on-same, ahead-none}
+use Rattle.sets.specs.EachSet.{length-on, getD-on, on-same, ahead-none}
 
 -- the heads are 1 .. H
 pub set-head : (m H h : ℕ) → 0 < h → h ≤ H → H < m → Head m (setHead H) h
@@ -60,12 +60,12 @@ module _ (m H : ℕ) (sets : List (List ℕ)) (t : List ℕ) (s : SpellsSets m H
 
   -- ---- put beside y
 
-  put-at : (f : ℕ → List ℕ → List ℕ) (u : List ℕ) → ring.Spells m (setHead H) (λ g. f g (membersOf sets g)) u → SpellsSets m H (onSets f 1 sets) u
+  put-at : (f : ℕ → List ℕ → List ℕ) (u : List ℕ) → ring.Spells m (setHead H) (λ g. f g (membersOf sets g)) u → SpellsSets m H (eachSet f 1 sets) u
   put-at f u sp =
       record {
         all = length-on f 1 sets ∙ s .all;
         spelled =
-            spells-cong m (setHead H) (λ g. f g (membersOf sets g)) (membersOf (onSets f 1 sets)) u
+            spells-cong m (setHead H) (λ g. f g (membersOf sets g)) (membersOf (eachSet f 1 sets)) u
             (λ g b.
             let i : g ≤ H = leb-true g H (b .is) in
             let e : 1 + (g - 1) ≡ g = omega (arith, b .some) in

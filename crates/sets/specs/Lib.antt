@@ -4,7 +4,7 @@ pub mod Procedures
 pub mod Calls
 pub mod Moves
 pub mod Promise
-pub mod OnSets
+pub mod EachSet
 pub mod Laws
 pub mod ClearLaw
 pub mod QueryLaws

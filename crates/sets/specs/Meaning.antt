@@ -20,7 +20,7 @@ use Rattle.model.specs.Judge.{judged}
 use Rattle.model.specs.Verdict.{judged-says}
 use Rattle.model.specs.Answers.{called, asked, turning, telling}
 use Rattle.sets.specs.Sets.{outSets, followSets, precedeSets, clearSets, sucSets, predSets, noLinks}
-use Rattle.sets.specs.Calls.{moving, telling as telling3, orNone, outStep, followStep, precedeStep, intoStep, clearStep, firstTold, lastTold, sucTold, predTold, emptyTold, cardinalTold, onLinks, ofLinks}
+use Rattle.sets.specs.Calls.{linkedIf, toldIf, orNone, outStep, followStep, precedeStep, intoStep, clearStep, firstTold, lastTold, sucTold, predTold, emptyTold, cardinalTold, onLinks, ofLinks}
 use Rattle.sets.specs.Promise.{link-in, linkage-in, head-in, none-or}
 use Rattle.sets.specs.Laws.{sets-out, sets-followed, sets-preceded}
 use Rattle.sets.specs.ClearLaw.{sets-cleared}
@@ -67,7 +67,7 @@ module _ (c : Counts) (l : Lists) (t : Tables) (z : Sized c t) (s : Spells c l t
   asked-is f = ap (λ (v : Verdict). telling v (f t)) fine
 
   moved-spells : (b : Bool) (u : List ℕ) (k : List (List ℕ)) → b ≡ true → SpellsSets m (c .heads) k u
-      → Does c l k (onLinks (λ v. moving b v u) t)
+      → Does c l k (onLinks (λ v. linkedIf b v u) t)
   moved-spells b u k e w =
       rw e (record {
         answer = refl;
@@ -123,7 +123,7 @@ module _ (c : Counts) (l : Lists) (t : Tables) (z : Sized c t) (s : Spells c l t
 
   -- ---- the queries
 
-  told-is : (b : Bool) (a r : Answer) → b ≡ true → a ≡ r → telling3 b a ≡ r
+  told-is : (b : Bool) (a r : Answer) → b ≡ true → a ≡ r → toldIf b a ≡ r
   told-is b a r e f = rw e f
 
   pub first-means : (x : ℕ) → isHead c x ≡ true → asked c (ofLinks (firstTold c x)) t ≡ Linkage (sucSets x (l .sets))

@@ -13,7 +13,7 @@ use Rattle.counts.specs.declared.Refusal.the-variants.{Operand}
 use Rattle.counts.specs.Counts.{total, isHead, isLink, isLinkage, both}
 use Rattle.model.specs.declared.answer.Answer.{Answer}
 use Rattle.model.specs.declared.answer.Answer.the-variants.{Done, Refused}
-use Rattle.sets.specs.Calls.{Linked, moving, telling, orNone, onLinks}
+use Rattle.sets.specs.Calls.{Linked, linkedIf, toldIf, orNone, onLinks}
 
 -- the links and the answer are as wanted, and the links are sound
 pub record Moved (m : ℕ) (want got : Linked) : Type 0 where
@@ -47,10 +47,10 @@ head-or h (suc y) = rw (ne-eqb (suc y) 0 (λ e. omega arith), le-leb 1 (suc y) (
 -- ---- refused or done; the tests come in turn
 
 module _ (m : ℕ) (t u : List ℕ) where
-  pub moved-not : (b : Bool) → Sound m t → b ≡ false → Moved m (moving b t u) (record { links = t; answer = Refused Operand })
+  pub moved-not : (b : Bool) → Sound m t → b ≡ false → Moved m (linkedIf b t u) (record { links = t; answer = Refused Operand })
   moved-not b s e = rw e (record { is = refl; sound = s })
 
-  pub moved : (b : Bool) (v : List ℕ) → b ≡ true → Made m u v → Moved m (moving b t u) (record { links = v; answer = Done })
+  pub moved : (b : Bool) (v : List ℕ) → b ≡ true → Made m u v → Moved m (linkedIf b t u) (record { links = v; answer = Done })
   moved b v e k = rw e (record { is = ap (λ (l : List ℕ). record { links = l; answer = Done }) (k .is); sound = k .sound })
 
 -- a test that the code makes, by its result
@@ -69,10 +69,10 @@ second-failed a b p q e n f o = rw (passed a b e n) (failed p q f o)
 pub both-passed : (a b p q : Bool) → a ≡ b → not a ≡ false → p ≡ q → not p ≡ false → (b && q) ≡ true
 both-passed a b p q e n f o = rw (passed a b e n) (passed p q f o)
 
-pub told-not : (b : Bool) (a : Answer) → b ≡ false → Refused Operand ≡ telling b a
+pub told-not : (b : Bool) (a : Answer) → b ≡ false → Refused Operand ≡ toldIf b a
 told-not b a e = rw e
 
-pub told : (b : Bool) (a r : Answer) → b ≡ true → r ≡ a → r ≡ telling b a
+pub told : (b : Bool) (a r : Answer) → b ≡ true → r ≡ a → r ≡ toldIf b a
 told b a r e f = rw e f
 
 -- a call that was made on the links, seen on the whole model

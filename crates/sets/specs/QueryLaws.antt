@@ -15,7 +15,7 @@ use Rattle.rings.specs.Spell.{spells-counted}
 use Rattle.model.specs.Tables.{setHead, membersOf, SpellsSets}
 use Rattle.sets.specs.Sets.{nextIn, prevIn, whereIn, sucSets, predSets, noLinks}
 use Rattle.sets.specs.Procedures.{linkOr, sucOf, predOf, emptyOf, cardinalOf}
-use Rattle.sets.specs.OnSets.{where-none, where-at}
+use Rattle.sets.specs.EachSet.{where-none, where-at}
 use Rattle.sets.specs.Laws.{set-head, stands, nowhere}
 
 pub or-link : (H v : ℕ) → H < v → linkOr H v ≡ v

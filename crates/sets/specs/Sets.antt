@@ -8,9 +8,9 @@ use Rattle.rings.specs.Lists.{if_then_else_, without, behind, ahead}
 use Rattle.rings.specs.Tabulate.{has}
 
 -- f done to each list, with the number of its head; the list of head 1 comes first
-abbrev pub onSets : (ℕ → List ℕ → List ℕ) → ℕ → List (List ℕ) → List (List ℕ)
-onSets f h [] = []
-onSets f h (l ∷ ls) = f h l ∷ onSets f (suc h) ls
+abbrev pub eachSet : (ℕ → List ℕ → List ℕ) → ℕ → List (List ℕ) → List (List ℕ)
+eachSet f h [] = []
+eachSet f h (l ∷ ls) = f h l ∷ eachSet f (suc h) ls
 
 -- "Out takes x from its list"
 abbrev pub outSets : ℕ → List (List ℕ) → List (List ℕ)
@@ -18,11 +18,11 @@ outSets x sets = map (without x) sets
 
 -- ".. then put x right behind .. y if y is then in a list or, where y is a head, first .. in its list"
 abbrev pub putBehind : ℕ → ℕ → List (List ℕ) → List (List ℕ)
-putBehind x y sets = onSets (λ h l. behind y x h l) 1 sets
+putBehind x y sets = eachSet (λ h l. behind y x h l) 1 sets
 
 -- ".. or in front of y if y is then in a list or, where y is a head, .. last in its list"
 abbrev pub putAhead : ℕ → ℕ → List (List ℕ) → List (List ℕ)
-putAhead x y sets = onSets (λ h l. ahead y x l h) 1 sets
+putAhead x y sets = eachSet (λ h l. ahead y x l h) 1 sets
 
 -- "Follow and precede do so, then put x .."
 abbrev pub followSets : ℕ → ℕ → List (List ℕ) → List (List ℕ)

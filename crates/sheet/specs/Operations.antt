@@ -8,15 +8,10 @@ use lib.Dec.{leb, eqb}
 use lib.ListN.{getD}
 use borrow.Author.Tests.{le-leb, lt-leb}
 use Rattle.rings.specs.Lists.{if_then_else_}
-use Rattle.rings.specs.Tabulate.{listed, listed-at}
+use Rattle.rings.specs.Tabulate.{listed, has, listed-at}
 use Rattle.sheet.specs.declared.operations.Holds.{Holds}
 use Rattle.sheet.specs.declared.operations.Holds.the-variants.{Nothing, Operand, RecordNumber, AccumulatorNumber}
 use Rattle.sheet.specs.declared.operations.Uses.{Uses}
-
--- the number is one of these
-abbrev pub oneOf : List ℕ → ℕ → Bool
-oneOf [] n = false
-oneOf (k ∷ ks) n = eqb n k || oneOf ks n
 
 -- an operation with no clause
 abbrev pub plain : Holds → Holds → Bool → Uses
@@ -25,16 +20,16 @@ plain x y t = record { clause = false; x = x; y = y; t = t }
 -- "operation | fields used"
 unfoldable pub rowOf : ℕ → Uses
 rowOf op =
-    if oneOf (1 ∷ []) op then plain Operand Nothing false  -- "1 out | x"
-    else if oneOf (2 ∷ 3 ∷ 4 ∷ []) op then plain Operand Operand false  -- "2 follow, 3 precede, 4 into | x, y"
-    else if oneOf (5 ∷ []) op then plain Operand Nothing false  -- "5 clear | x"
-    else if oneOf (6 ∷ []) op then plain Nothing Nothing true  -- "6 hold | t"
-    else if oneOf (7 ∷ []) op then plain Nothing Nothing false  -- "7 passivate | none"
-    else if oneOf (8 ∷ []) op then plain Nothing Operand false  -- "8 wait | y"
-    else if oneOf (9 ∷ []) op then plain Operand Nothing false  -- "9 cancel | x"
-    else if oneOf (10 ∷ 11 ∷ []) op then record { clause = true; x = Operand; y = Operand; t = true }  -- "10 activate, 11 reactivate | clause, x, y .., t .."
-    else if oneOf (12 ∷ []) op then plain Operand RecordNumber false  -- "12 if head x is empty go to record y | x, y"
-    else if oneOf (13 ∷ []) op then plain AccumulatorNumber Nothing true  -- "13 accum number x by t | x"; "For 13, t is used too"
+    if has op (1 ∷ []) then plain Operand Nothing false  -- "1 out | x"
+    else if has op (2 ∷ 3 ∷ 4 ∷ []) then plain Operand Operand false  -- "2 follow, 3 precede, 4 into | x, y"
+    else if has op (5 ∷ []) then plain Operand Nothing false  -- "5 clear | x"
+    else if has op (6 ∷ []) then plain Nothing Nothing true  -- "6 hold | t"
+    else if has op (7 ∷ []) then plain Nothing Nothing false  -- "7 passivate | none"
+    else if has op (8 ∷ []) then plain Nothing Operand false  -- "8 wait | y"
+    else if has op (9 ∷ []) then plain Operand Nothing false  -- "9 cancel | x"
+    else if has op (10 ∷ 11 ∷ []) then record { clause = true; x = Operand; y = Operand; t = true }  -- "10 activate, 11 reactivate | clause, x, y .., t .."
+    else if has op (12 ∷ []) then plain Operand RecordNumber false  -- "12 if head x is empty go to record y | x, y"
+    else if has op (13 ∷ []) then plain AccumulatorNumber Nothing true  -- "13 accum number x by t | x"; "For 13, t is used too"
     else plain Nothing Nothing false
 
 -- where a clause is used: ".. y for 5 and 6, t for 1 to 4"

@@ -14,16 +14,17 @@ use Rattle.model.specs.declared.answer.Answer.{Answer}
 use Rattle.model.specs.declared.answer.Answer.the-variants.{Done, Refused}
 use Rattle.sets.specs.Calls.{orNone}
 use Rattle.sequencing.specs.Plain.{above}
-use Rattle.sequencing.specs.Procedures.{scheduled, activated}
-use Rattle.sequencing.specs.Calls.{half, timedStep}
+use Rattle.sequencing.specs.Procedures.{putByClause, activated}
+use Rattle.sequencing.specs.Calls.{timedStep}
 use Rattle.sequencing.specs.Promise.{sqs, Left, Answers, Noticed, Vain, capped-fine, capped-over}
 use Rattle.sequencing.specs.StepPromise.{need-x, need-plain, refused-3, passed-3}
 use Rattle.simulation.proofs.Arms.{beside-not, due-direct, due-two}
 use Rattle.simulation.proofs.Chained.{active-5, active-0}
+use Rattle.model.specs.Now.{half}
 
 -- its time is the first notice's
 pub active-now : (m x f time : ℕ) (a t marks : List ℕ) (v : Bool) → Vain false 0 x 0 marks a v → v ≡ false → Noticed m f time a t
-    → (a′ t′ : List ℕ) → Left m (scheduled m 0 x 0 time time (sqs a t)) a′ t′ → Answers m (activated m false 0 x 0 0 marks (sqs a t)) a′ t′ Done
+    → (a′ t′ : List ℕ) → Left m (putByClause m 0 x 0 time time (sqs a t)) a′ t′ → Answers m (activated m false 0 x 0 0 marks (sqs a t)) a′ t′ Done
 active-now m x f time a t marks v va e n a′ t′ l =
     let z : time ≡ time + 0 = omega arith in
     active-0 m a t false 0 x 0 0 marks v va e f f time time (n .place) refl (n .read)
@@ -38,7 +39,7 @@ module _ (m x f time d : ℕ) (a t marks : List ℕ) (v : Bool) (va : Vain false
       (due-two 2 0 d time t (suc limit) refl (sym (capped-over (time + d) (omega (arith, n .within)))))
       s (omega arith)
 
-  pub late-0 : d ≤ limit - time → (u : ℕ) → u ≡ time + d → (a′ t′ : List ℕ) → Left m (scheduled m 2 x 0 time u (sqs a t)) a′ t′
+  pub late-0 : d ≤ limit - time → (u : ℕ) → u ≡ time + d → (a′ t′ : List ℕ) → Left m (putByClause m 2 x 0 time u (sqs a t)) a′ t′
       → Answers m (activated m false 2 x 0 d marks (sqs a t)) a′ t′ Done
   late-0 l u eu a′ t′ k =
       let h : u ≤ limit = omega (arith, n .within) in

@@ -13,7 +13,7 @@ use Rattle.counts.specs.Counts.{limit}
 use Rattle.counts.specs.declared.Refusal.the-variants.{NoNotice, TimeLimit}
 use Rattle.model.specs.declared.answer.Answer.{Answer}
 use Rattle.model.specs.declared.answer.Answer.the-variants.{Done, Refused}
-use Rattle.sequencing.specs.Procedures.{Sqs, made, found, dropOn, putOn, heldAt, held, passivated, cancelled, finishedMarks, dueAt, placeFor, scheduled, activated}
+use Rattle.sequencing.specs.Procedures.{Sqs, made, found, dropOn, putOn, heldAt, held, passivated, cancelled, finishedMarks, dueAt, placeFor, putByClause, activated}
 use Rattle.sequencing.specs.Promise.{sqs, Left, Answers, AnswersMarked, Place, Stored, Read, Lone, Vain, Beside, Due, capped-in, capped-out}
 
 pub dropped-by : (m x y z : ℕ) (a a′ t t′ : List ℕ) → y ≡ x → Made m (unlinked m y a) a′ → z ≡ x → Stored z 0 t t′ → Left m (dropOn m x (sqs a t)) a′ t′
@@ -37,8 +37,8 @@ module _ (m : ℕ) (a t : List ℕ) where
       }
 
   pub scheduled-by : (k x y now u q : ℕ) (a₁ t₁ a₂ t₂ : List ℕ) → Left m (dropOn m x (sqs a t)) a₁ t₁ → Place m (placeFor m k y now u (sqs a₁ t₁)) q
-      → Left m (putOn m x q u (sqs a₁ t₁)) a₂ t₂ → Left m (scheduled m k x y now u (sqs a t)) a₂ t₂
-  unfolding scheduled
+      → Left m (putOn m x q u (sqs a₁ t₁)) a₂ t₂ → Left m (putByClause m k x y now u (sqs a t)) a₂ t₂
+  unfolding putByClause
   scheduled-by k x y now u q a₁ t₁ a₂ t₂ d p s =
       record {
         is = s .is ∙ ap (λ (j : ℕ). putOn m x j u (sqs a₁ t₁)) (p .is) ∙ ap (λ (b : Sqs). putOn m x (placeFor m k y now u b) u b) (d .is);
@@ -174,7 +174,7 @@ module _ (m : ℕ) (a t : List ℕ) where
         active-idle a′ t′ i f c =
             record { is = rw (sym (va .is) ∙ e, now-is, due-u, le-leb u limit l, sym (be .is) ∙ f) (c .is); sound = c .sound }
 
-        pub active-0 : (a′ t′ : List ℕ) → b ≡ false → Left m (scheduled m k x y w u (sqs a t)) a′ t′ → Answers m (activated m again k x y d marks (sqs a t)) a′ t′ Done
+        pub active-0 : (a′ t′ : List ℕ) → b ≡ false → Left m (putByClause m k x y w u (sqs a t)) a′ t′ → Answers m (activated m again k x y d marks (sqs a t)) a′ t′ Done
         unfolding activated
         active-0 a′ t′ f c =
             record { is = rw (sym (va .is) ∙ e, now-is, due-u, le-leb u limit l, sym (be .is) ∙ f) (ap made (c .is)); sound = c .sound }

@@ -15,7 +15,7 @@ ghost use mathlib.Core.Path.{_≡_};
 ghost use Prim.Native.Nat.{_+_, _<_, _≤_};
 ghost use Rattle.rings.specs.Table.{Sound};
 ghost use Rattle.counts.specs.Counts.{limit};
-ghost use Rattle.sequencing.specs.Procedures.{placeFor, scheduled, activated};
+ghost use Rattle.sequencing.specs.Procedures.{placeFor, putByClause, activated};
 ghost use Rattle.sequencing.specs.Plain.{above};
 ghost use Rattle.sequencing.specs.Promise.{sqs, Left, Answers, Place, Vain, Beside, Due};
 
@@ -138,7 +138,7 @@ pub(crate) fn schedule(
     requires { ⌜ y < m ⌝ }
     requires { ⌜ m ≤ 1026 ⌝ }
     requires { ⌜ u ≤ limit ⌝ }
-    ensures { λ _. ⌜ Left m (scheduled m k x y time u (sqs (now (axis .entry)) (now (times .entry)))) (now (axis .exit)) (now (times .exit)) ⌝ }
+    ensures { λ _. ⌜ Left m (putByClause m k x y time u (sqs (now (axis .entry)) (now (times .entry)))) (now (axis .exit)) (now (times .exit)) ⌝ }
 {
     drop(axis, m, times, x);
     let q = place_for(axis, m, times, k, y, time, u);

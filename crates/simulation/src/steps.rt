@@ -17,9 +17,10 @@ ghost use Rattle.rings.specs.Table.{Sound};
 ghost use Rattle.counts.specs.Counts.{isProcess, total};
 ghost use Rattle.sets.specs.Calls.{orNone};
 ghost use Rattle.sequencing.specs.Plain.{timedNeed};
-ghost use Rattle.sequencing.specs.Calls.{half, yPlace, holdStep, passivateStep, cancelStep, timedStep, finishStep, waitStep};
+ghost use Rattle.sequencing.specs.Calls.{yPlace, holdStep, passivateStep, cancelStep, timedStep, finishStep, waitStep};
 ghost use Rattle.sequencing.specs.Promise.{sqs, Answers, Judged, Takeable, Noticed};
 ghost use Rattle.sequencing.specs.StepPromise.{FinishMade, WaitMade};
+ghost use Rattle.model.specs.Now.{half};
 
 // A process, or none.
 pub fn process_or_none(c: Counts, x: u32) -> bool

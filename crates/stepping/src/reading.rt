@@ -15,14 +15,15 @@ ghost use lib.ListN.{length, getD};
 ghost use Rattle.sequencing.specs.Promise.{Judged};
 ghost use Rattle.sheet.specs.Sheet.{recordOffset, recordFrom};
 ghost use Rattle.sheet.specs.Accepted.{isOperand};
-ghost use Rattle.machine.specs.OnTables.{placeNow, operandWith};
+ghost use Rattle.machine.specs.OnTables.{operandWith};
 ghost use Rattle.runs.specs.Needs.{Resolvable, Readable};
 ghost use Rattle.runs.specs.Run.{recordGot};
+ghost use Rattle.model.specs.Now.{half, firstOf};
 
 // Current's place in the axis.
 pub fn place_now(c: Counts, axis: &[u32]) -> u32
     requires { ⌜ Judged c (now axis) ⌝ }
-    ensures { λ r. ⌜ r ≡ placeNow c (now (axis .entry)) ⌝ }
+    ensures { λ r. ⌜ r ≡ firstOf (half c) (now (axis .entry)) ⌝ }
 {
     axis[wide(c.processes) + 1]
 }

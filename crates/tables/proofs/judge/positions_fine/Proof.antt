@@ -1,10 +1,10 @@
-use Rattle.tables.proofs.Standing.{Stands, stands-start, stands-past, stands-turn, stands-out}
+use Rattle.tables.proofs.Standing.{Downto, stands-start, stands-past, stands-turn, stands-out}
 use borrow.Author.Needs.{needs}
 use Rattle.tables.proofs.judge.positions_fine.Statement.{statement}
 use Rattle.tables.proofs.judge.positions_fine.Tie as tie
 
 abbrev Inv-loop : tie.InvT-loop
-Inv-loop positions p records i₀ i = Stands records positions p i
+Inv-loop positions p records i₀ i = Downto records positions p i
 
 abbrev μ-loop : tie.MeasureT-loop
 μ-loop positions p records i₀ i = i

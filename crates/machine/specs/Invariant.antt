@@ -25,7 +25,7 @@ pub record InRange (s : Sheet) : Type 0 where
   pub starts-in : (i : ℕ) → getD (s .starts) i 0 ≤ length (s .records)
   pub record-in : (r : ℕ) → 1 ≤ r → r ≤ length (s .records) → Ranged (headerIs s) (recordOf s r)
 
-pub record Kept (s : Sheet) (m : Machine) : Type 0 where
+pub record Invariant (s : Sheet) (m : Machine) : Type 0 where
   -- "No link stands twice in the sets", all sets taken together; only links stand there
   pub links-once : Dist (joined (m .lists .sets))
   pub only-links : (x : ℕ) → In x (joined (m .lists .sets)) → (s .counts .heads < x) × (x ≤ total (s .counts))

@@ -12,7 +12,7 @@ use Rattle.model.specs.Notices.{Notice, whos, InOrder, Within}
 use Rattle.sequencing.specs.NoticeOps.{dropped}
 use Rattle.sequencing.specs.NoticeLaws.{Ins, ins-in, drop-in, drop-sorted}
 
-pub record Kept (terminated : List ℕ) (ns : List Notice) : Type 0 where
+pub record NoticesKept (terminated : List ℕ) (ns : List Notice) : Type 0 where
   pub some : 0 < length ns
   pub in-order : InOrder ns
   pub within : Within ns
@@ -33,7 +33,7 @@ ins-some n Ins.here = omega arith
 ins-some n (Ins.there i) = omega arith
 
 pub kept-ins : (terminated : List ℕ) (n : Notice) (ns ns′ : List Notice) → Ins n ns ns′ → InOrder ns′ → n .due ≤ limit → Within ns
-    → ((x : ℕ) → In x terminated → In x (whos ns) → ⊥) → (In (n .who) terminated → ⊥) → Kept terminated ns′
+    → ((x : ℕ) → In x terminated → In x (whos ns) → ⊥) → (In (n .who) terminated → ⊥) → NoticesKept terminated ns′
 kept-ins terminated n ns ns′ i o l w f g =
     record {
       some = ins-some n i;
@@ -51,18 +51,18 @@ drop-within x (k ∷ ks) w =
     (λ e. rw (eq-eqb (k .who) x e) (drop-within x ks (w .1)))
     (λ n. rw (ne-eqb (k .who) x n) (w .0, drop-within x ks (w .1)))
 
-module _ (terminated : List ℕ) (ns : List Notice) (k : Kept terminated ns) (x : ℕ) where
+module _ (terminated : List ℕ) (ns : List Notice) (k : NoticesKept terminated ns) (x : ℕ) where
   pub dropped-within : Within (dropped x ns)
   dropped-within = drop-within x ns (k .within)
 
   pub dropped-idle : (y : ℕ) → In y terminated → In y (whos (dropped x ns)) → ⊥
   dropped-idle y i j = k .idle y i (drop-in x ns y j)
 
-  pub kept-drop : 0 < length (dropped x ns) → Kept terminated (dropped x ns)
+  pub kept-drop : 0 < length (dropped x ns) → NoticesKept terminated (dropped x ns)
   kept-drop l = record { some = l; in-order = drop-sorted x ns (k .in-order); within = dropped-within; idle = dropped-idle }
 
 -- ---- the first notice taken out
 
-pub kept-rest : (terminated : List ℕ) (n : Notice) (ns : List Notice) → Kept terminated (n ∷ ns) → 0 < length ns → Kept terminated ns
+pub kept-rest : (terminated : List ℕ) (n : Notice) (ns : List Notice) → NoticesKept terminated (n ∷ ns) → 0 < length ns → NoticesKept terminated ns
 kept-rest terminated n ns k l =
     record { some = l; in-order = k .in-order .1; within = k .within .1; idle = λ x i j. k .idle x i (inr j) }

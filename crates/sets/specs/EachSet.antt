@@ -10,14 +10,14 @@ use lib.ListN.{length, getD}
 use borrow.Author.Tests.{ne-eqb}
 use Rattle.rings.specs.Lists.{In, ahead, test}
 use Rattle.rings.specs.Tabulate.{has, has-in, in-has}
-use Rattle.sets.specs.Sets.{onSets, whereIn}
+use Rattle.sets.specs.Sets.{eachSet, whereIn}
 
-pub length-on : (f : ℕ → List ℕ → List ℕ) (n : ℕ) (ls : List (List ℕ)) → length (onSets f n ls) ≡ length ls
+pub length-on : (f : ℕ → List ℕ → List ℕ) (n : ℕ) (ls : List (List ℕ)) → length (eachSet f n ls) ≡ length ls
 length-on f n [] = refl
 length-on f n (l ∷ ls) = ap suc (length-on f (suc n) ls)
 
 pub getD-on : (f : ℕ → List ℕ → List ℕ) (n : ℕ) (ls : List (List ℕ)) (i : ℕ) → i < length ls
-    → getD (onSets f n ls) i [] ≡ f (n + i) (getD ls i [])
+    → getD (eachSet f n ls) i [] ≡ f (n + i) (getD ls i [])
 getD-on f n [] i l = absurd (not-suc-le-zero l)
 getD-on f n (k ∷ ls) zero l = ap (λ (j : ℕ). f j k) (omega arith)
 getD-on f n (k ∷ ls) (suc i) l =
@@ -25,7 +25,7 @@ getD-on f n (k ∷ ls) (suc i) l =
 
 -- where f changes no list, nothing is changed
 pub on-same : (f : ℕ → List ℕ → List ℕ) (n : ℕ) (ls : List (List ℕ)) → ((i : ℕ) → i < length ls → f (n + i) (getD ls i []) ≡ getD ls i [])
-    → onSets f n ls ≡ ls
+    → eachSet f n ls ≡ ls
 on-same f n [] g = refl
 on-same f n (l ∷ ls) g =
     ap₂ (λ (k : List ℕ) (ks : List (List ℕ)). k ∷ ks)
