@@ -14,7 +14,7 @@ ghost use Rattle.model.specs.Now.{half, timeOf};
 // The time of a judged model: that of the first notice.
 pub(crate) fn time_of(c: Counts, links: &[u32], axis: &[u32], times: &[u64], marks: &[u8]) -> u64
     requires { ⌜ Ready c (record { links = now links; axis = now axis; times = now times; marks = now marks }) ⌝ }
-    ensures { λ r. ⌜ r ≡ timeOf (half c) (record { links = now (links .entry); axis = now (axis .entry); times = now (times .entry); marks = now (marks .entry) } .axis) (record { links = now (links .entry); axis = now (axis .entry); times = now (times .entry); marks = now (marks .entry) } .times) ⌝ }
+    ensures { λ r. ⌜ r ≡ timeOf (half c) (now (axis .entry)) (now (times .entry)) ⌝ }
 {
     let head = wide(c.processes) + 1;
     let first = wide(axis[head]);

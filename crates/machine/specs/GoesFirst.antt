@@ -14,10 +14,10 @@ use Rattle.sequencing.specs.Plain.{Result, refused, done, current}
 use Rattle.sheet.specs.Sheet.{Sheet}
 use Rattle.machine.specs.Machine.{Machine, withPosition}
 use Rattle.machine.specs.Calls.{perform}
-use Rattle.machine.specs.Steps.{callNow, nextNow, Line, lineNow, Turn, ended, stepped}
+use Rattle.machine.specs.Steps.{callNow, nextNow, Line, lineNow, Turn, stepped}
 use Rattle.machine.specs.Run.{turn, state}
 use Rattle.machine.specs.History.{noticesAt}
-use Rattle.machine.specs.TurnLaws.{Then, turn-cases}
+use Rattle.machine.specs.TurnCases.{Then, turn-cases}
 
 -- after n steps
 pub record GoesFirst (s : Sheet) (n : ℕ) : Type 0 where

@@ -1,4 +1,4 @@
--- The plain machine of demand 3, its laws, the order of ties, and how the engine's tables follow it.
+-- The plain machine of demand 3, on lists alone: its calls, steps and runs, what each call does to the notices, and the order of ties.
 pub mod Machine
 pub mod Calls
 pub mod Steps
@@ -8,12 +8,7 @@ pub mod History
 pub mod HistoryLaw
 pub mod StepLaws
 pub mod CallLaws
-pub mod OnTables
-pub mod Reading
-pub mod Agree
 pub mod Invariant
-pub mod TurnLaws
+pub mod TurnCases
 pub mod GoesFirst
-pub mod Laws
-pub mod Situations
 pub mod Worked

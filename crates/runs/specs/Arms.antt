@@ -25,7 +25,7 @@ use Rattle.sequencing.specs.Calls.{holdStep, passivateStep, cancelStep, timedSt
 use Rattle.accumulator.specs.Flat.{Changed, updatedIn}
 use Rattle.sheet.specs.declared.records.Record.{Record}
 use Rattle.machine.specs.Calls.{SetCall, out, follow, precede, into, clear, ListCall, onSet, hold, passivate, wait, cancel, activate, ifEmpty, finish, Call, onList, accum}
-use Rattle.machine.specs.OnTables.{operandWith, linksAfter, tablesAfter, Carried, carriedOut}
+use Rattle.runs.specs.OnTables.{operandWith, linksAfter, tablesAfter, Carried, carriedOut}
 use Rattle.runs.specs.declared.Effect.{Effect}
 use Rattle.runs.specs.declared.Effect.the-variants.{Stays, Jumps, Moves}
 use Rattle.runs.specs.Run.{resolved, callDue}

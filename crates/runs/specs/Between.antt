@@ -21,7 +21,7 @@ use Rattle.sheet.specs.declared.records.Record.{Record}
 use Rattle.sheet.specs.Sheet.{recordOffset}
 use Rattle.machine.specs.declared.End.the-variants.{Refused as Ended}
 use Rattle.machine.specs.Calls.{Call}
-use Rattle.machine.specs.OnTables.{carriedOut}
+use Rattle.runs.specs.OnTables.{carriedOut}
 use Rattle.runs.specs.declared.Effect.{Effect}
 use Rattle.runs.specs.declared.Effect.the-variants.{Stays, Jumps, Moves, Refused, Apart}
 use Rattle.runs.specs.declared.Pause.{Pause}

@@ -17,7 +17,7 @@ use Rattle.machine.specs.Run as machine
 use Rattle.machine.specs.Uncut.{Joined, calls-joined}
 use Rattle.machine.specs.History.{Tie, scheduled, noticesAt}
 use Rattle.machine.specs.GoesFirst.{GoesFirst}
-use Rattle.machine.specs.Laws.{Laws, machine-laws}
+use Rattle.runs.specs.MachineLaws.{Laws, machine-laws}
 use Rattle.runs.specs.Run.{RunTables, runJudged, RanOn, runOn}
 use Rattle.runs.specs.Judging.{judged-fine, passed-standing}
 use Rattle.runs.specs.Standing.{Stands}

@@ -23,7 +23,7 @@ use Rattle.sheet.specs.Sheet.{countsOf, recordsOf, startAt, sheetOf}
 use Rattle.sheet.specs.Accepted.{accepted, checked}
 use Rattle.sheet.specs.Ranges.{records-listed}
 use Rattle.machine.specs.Machine.{fresh}
-use Rattle.machine.specs.Laws.{accepted-range}
+use Rattle.runs.specs.MachineLaws.{accepted-range}
 use Rattle.runs.specs.Run.{RunTables}
 use Rattle.runs.specs.Standing.{Stands}
 

@@ -1,4 +1,10 @@
 -- Runs of model sheets: what the code computes, that it follows the plain machine, and demand 3.
+pub mod OnTables
+pub mod Resolving
+pub mod PerformFollows
+pub mod MachineTurns
+pub mod MachineLaws
+pub mod Situations
 pub mod Run
 pub mod Performed
 pub mod Needs

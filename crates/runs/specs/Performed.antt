@@ -16,7 +16,7 @@ use Rattle.sets.specs.Procedures.{emptyOf}
 use Rattle.sets.specs.Calls.{toldIf}
 use Rattle.sheet.specs.declared.records.Record.{Record}
 use Rattle.machine.specs.Calls.{ListCall, onSet, hold, passivate, wait, cancel, activate, ifEmpty, finish, Call, onList, accum}
-use Rattle.machine.specs.OnTables.{operandWith, carriedOut}
+use Rattle.runs.specs.OnTables.{operandWith, carriedOut}
 use Rattle.runs.specs.declared.Effect.{Effect}
 use Rattle.runs.specs.declared.Effect.the-variants.{Stays, Jumps, Moves, Refused, Apart}
 use Rattle.runs.specs.Run.{Turned, On, Off, resolved, callDue}

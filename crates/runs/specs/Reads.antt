@@ -17,7 +17,7 @@ use Rattle.sheet.specs.declared.records.Record.{Record}
 use Rattle.sheet.specs.Sheet.{recordOffset, recordFrom, recordWith}
 use Rattle.sheet.specs.Accepted.{isOperand}
 use Rattle.sheet.specs.Fields.{operand-kinds}
-use Rattle.machine.specs.OnTables.{operandWith}
+use Rattle.runs.specs.OnTables.{operandWith}
 use Rattle.runs.specs.Run.{endRecord, recordGot, endsNow}
 use Rattle.runs.specs.declared.Effect.the-variants.{Stays, Jumps, Refused}
 use Rattle.runs.specs.Performed.{branched}

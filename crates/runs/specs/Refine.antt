@@ -25,8 +25,8 @@ use Rattle.trace.specs.Lines.{lineBytes}
 use Rattle.machine.specs.Machine.{Machine}
 use Rattle.machine.specs.Steps.{operandOf, callOf, nextOf, recordOf, recordNow, Line, lineNow}
 use Rattle.machine.specs.Run.{atEnd}
-use Rattle.machine.specs.OnTables.{operandAt}
-use Rattle.machine.specs.Reading.{current-at, time-at, operand-plain, operand-at, empty-at}
+use Rattle.runs.specs.OnTables.{operandAt}
+use Rattle.runs.specs.Resolving.{current-at, time-at, operand-plain, operand-at, empty-at}
 use Rattle.runs.specs.Run.{RunTables, resolved, callDue, recordAtNow, lineIn, endsNow}
 use Rattle.runs.specs.Standing.{Stands, Standing, sized, ready, its-range}
 use Rattle.model.specs.Now.{half, firstOf}

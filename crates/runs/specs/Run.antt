@@ -29,7 +29,7 @@ use Rattle.machine.specs.declared.End.{End}
 use Rattle.machine.specs.declared.End.the-variants.{Finished, Full, Refused}
 use Rattle.machine.specs.Calls.{Call, onList, finish}
 use Rattle.machine.specs.Steps.{callOf, nextOf}
-use Rattle.machine.specs.OnTables.{operandWith, Carried, carriedOut}
+use Rattle.runs.specs.OnTables.{operandWith, Carried, carriedOut}
 use Rattle.runs.specs.declared.Ran.{Ran}
 use Rattle.model.specs.Now.{half, timeOf, firstOf}
 

@@ -24,10 +24,11 @@ use Rattle.trace.specs.Lines.{put}
 use Rattle.machine.specs.Machine.{Machine, withPosition}
 use Rattle.machine.specs.Calls.{ifEmpty, Call, onList, listsAfter, perform}
 use Rattle.machine.specs.Steps.{operandOf, callOf, nextOf, recordOf, recordNow, itsCall, itsNext, callNow, nextNow, lineNow}
-use Rattle.machine.specs.OnTables.{Carried, carriedOut}
-use Rattle.machine.specs.Agree.{FollowsRun, perform-follows}
-use Rattle.machine.specs.TurnLaws.{Then, perform-sizes, next-in, set-in}
-use Rattle.machine.specs.Laws.{accepted-range}
+use Rattle.runs.specs.OnTables.{Carried, carriedOut}
+use Rattle.runs.specs.PerformFollows.{FollowsRun, perform-follows}
+use Rattle.machine.specs.TurnCases.{Then}
+use Rattle.runs.specs.MachineTurns.{perform-sizes, next-in, set-in}
+use Rattle.runs.specs.MachineLaws.{accepted-range}
 use Rattle.runs.specs.Run.{RunTables, Turned, On, Off, recordGot, resolved, callDue, turnedOf, Stepped, moved, recordAtNow, dueIn, lineIn, stepOn}
 use Rattle.runs.specs.Standing.{Stands, ready, now-in}
 use Rattle.runs.specs.Refine.{bytesOf, stood, fit, current-is, record-is, line-is, listAfter, some-call, some-next}

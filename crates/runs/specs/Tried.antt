@@ -16,7 +16,7 @@ use Rattle.model.specs.Tables.{Tables}
 use Rattle.sets.specs.Procedures.{emptyOf}
 use Rattle.sheet.specs.declared.records.Record.{Record}
 use Rattle.machine.specs.Calls.{Call}
-use Rattle.machine.specs.OnTables.{carriedOut}
+use Rattle.runs.specs.OnTables.{carriedOut}
 use Rattle.runs.specs.declared.Effect.{Effect}
 use Rattle.runs.specs.declared.Effect.the-variants.{Stays, Jumps, Moves, Refused, Apart}
 use Rattle.runs.specs.Run.{resolved, callDue}

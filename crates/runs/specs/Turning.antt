@@ -15,7 +15,7 @@ use Rattle.machine.specs.declared.End.the-variants.{Finished, Full, Refused}
 use Rattle.machine.specs.Machine.{Machine, withPosition}
 use Rattle.machine.specs.Calls.{perform}
 use Rattle.machine.specs.Steps.{callNow, nextNow}
-use Rattle.machine.specs.OnTables.{Carried, carriedOut}
+use Rattle.runs.specs.OnTables.{Carried, carriedOut}
 use Rattle.runs.specs.Run.{RunTables, Turned, On, Off, Stepped, callDue, turnedOf, moved, dueIn, lineIn, stepOn, endsNow, RanOn, stoppedOn, turnsOn}
 use Rattle.runs.specs.Standing.{Standing, sized, ready, positions-length, words-length}
 use Rattle.runs.specs.StepFollows.{StepIs, step-follows}

@@ -11,7 +11,7 @@ use Rattle.counts.specs.declared.Counts.{Counts}
 use Rattle.sheet.specs.declared.records.Record.{Record}
 use Rattle.machine.specs.Calls.{out, follow, precede, into, clear, onSet, hold, passivate, wait, cancel, activate, ifEmpty, finish, Call, onList, accum}
 use Rattle.machine.specs.Steps.{callOf}
-use Rattle.machine.specs.OnTables.{operandWith}
+use Rattle.runs.specs.OnTables.{operandWith}
 use Rattle.runs.specs.Run.{resolved, callDue}
 
 module _ (c : Counts) (links : List ℕ) (f : ℕ) (q : Record) where

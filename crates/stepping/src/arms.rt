@@ -31,7 +31,7 @@ ghost use Rattle.sequencing.specs.Promise.{sqs, Answers, Judged, Takeable, Noti
 ghost use Rattle.sequencing.specs.StepPromise.{WaitMade};
 ghost use Rattle.accumulator.specs.Flat.{updatedIn};
 ghost use Rattle.sheet.specs.Sheet.{recordFrom};
-ghost use Rattle.machine.specs.OnTables.{operandWith};
+ghost use Rattle.runs.specs.OnTables.{operandWith};
 ghost use Rattle.runs.specs.Needs.{Readable};
 ghost use Rattle.model.specs.Now.{half};
 

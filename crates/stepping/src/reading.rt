@@ -15,7 +15,7 @@ ghost use lib.ListN.{length, getD};
 ghost use Rattle.sequencing.specs.Promise.{Judged};
 ghost use Rattle.sheet.specs.Sheet.{recordOffset, recordFrom};
 ghost use Rattle.sheet.specs.Accepted.{isOperand};
-ghost use Rattle.machine.specs.OnTables.{operandWith};
+ghost use Rattle.runs.specs.OnTables.{operandWith};
 ghost use Rattle.runs.specs.Needs.{Resolvable, Readable};
 ghost use Rattle.runs.specs.Run.{recordGot};
 ghost use Rattle.model.specs.Now.{half, firstOf};

@@ -1,3 +1,7 @@
+use Prim.Native.Nat.{ℕ}
+use mathlib.Core.Path.{ap}
+use native.Mathlib.Omega.{arith}
+use lib.ListN.{getD}
 use borrow.Author.Needs.{needs}
 use Rattle.stepping.proofs.reading.place_now.Statement.{statement}
 use Rattle.stepping.proofs.reading.place_now.Tie as tie
@@ -15,7 +19,7 @@ shared-slice-read-result : tie.Need-shared-slice-read-result
 shared-slice-read-result c = search needs
 
 returns : tie.Need-returns
-returns c = cc
+returns c = ap (λ (i : ℕ). getD (c .before .before .before .args .axis .now) i 0) (omega (arith, c .before .wide .ensures))
 
 pub place-now-spec : {M : Type 1} → statement M
 place-now-spec =

@@ -2,7 +2,7 @@ use mathlib.Core.Path.{_≡_, sym, ap, _∙_, subst}
 use mathlib.Core.Bool.{true}
 use Prim.Native.Nat.{ℕ}
 use Rattle.sheet.specs.Accepted.{isOperand}
-use Rattle.machine.specs.OnTables.{operandWith}
+use Rattle.runs.specs.OnTables.{operandWith}
 use Rattle.stepping.proofs.reading.x_of.Statement.{statement}
 use Rattle.stepping.proofs.reading.x_of.Tie as tie
 

@@ -24,9 +24,9 @@ use Rattle.sequencing.specs.Plain.{Result, refused, done, dueFor, placed, noEff
 use Rattle.sequencing.specs.Plain as plain
 use Rattle.sequencing.specs.Procedures.{seekFrom, found, dropOn, putOn, heldAt, held, passivated, cancelled, vain, dueAt, placeFor, putByClause, activated}
 use Rattle.sequencing.specs.Calls.{holdStep, timedStep}
 use Rattle.machine.specs.Machine.{Machine, fresh}
 use Rattle.machine.specs.Calls.{follow, into, ListCall, onSet, hold, activate, onList, listsAfter, perform}
-use Rattle.machine.specs.OnTables.{tablesAfter}
+use Rattle.runs.specs.OnTables.{tablesAfter}
 
 -- ---- a model with one head, S, and four processes: M is main; A, B, C are processes
 

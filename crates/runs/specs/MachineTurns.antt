@@ -29,27 +29,22 @@ use Rattle.sheet.specs.declared.header.Header.{Header}
 use Rattle.sheet.specs.declared.records.Record.{Record}
 use Rattle.sheet.specs.Sheet.{Sheet}
 use Rattle.sheet.specs.Fields.{Ranged}
 use Rattle.machine.specs.declared.End.{End}
-use Rattle.machine.specs.declared.End.the-variants.{Finished, Refused}
 use Rattle.machine.specs.Machine.{Machine, withPosition}
 use Rattle.machine.specs.Calls.{Call, onList, accum, listsAfter, lifted, storing, perform}
-use Rattle.machine.specs.Steps.{recordOf, recordNow, nextOf, callNow, nextNow, lineNow, Turn, ended, stepped, moving, step}
-use Rattle.machine.specs.Run.{atEnd, turn, onward}
+use Rattle.machine.specs.Steps.{recordOf, recordNow, nextOf, callNow, nextNow, lineNow, Turn, ended, stepped, step}
+use Rattle.machine.specs.Run.{turn, onward}
 use Rattle.machine.specs.History.{Stepwise, placing, placingOf, listPlacing, ifStepped}
 use Rattle.machine.specs.StepLaws.{stepwise-same}
+use Rattle.machine.specs.TurnCases.{Then, turn-cases}
 use Rattle.machine.specs.CallLaws.{Notices, call-notices, call-forward}
-use Rattle.machine.specs.OnTables.{tablesAfter}
-use Rattle.machine.specs.Agree.{lists-follow}
+use Rattle.runs.specs.OnTables.{tablesAfter}
+use Rattle.runs.specs.PerformFollows.{lists-follow}
 use Rattle.machine.specs.Invariant.{headerIs, InRange}
 
 -- the lists are those of some well-formed tables
 abbrev pub Spelled : Counts → Lists → Type 0
 Spelled c l = (t : Tables) × Spells c l t
-
--- refused, or done with a machine of which Q holds
-abbrev pub Then : (Machine → Type 0) → Result Machine → Type 0
-Then Q (refused r) = Unit {0}
-Then Q (done m) = Q m
 
 -- ---- a call
 
@@ -116,17 +111,6 @@ module _ (c : Counts) (a : Allowed c) (m : Machine) (t : Tables) (s : Spells c (
       go (NotUpdated r) g = tt
 
 -- ---- a turn
-
--- it comes to an end, or to what its call leaves
-pub turn-cases : (s : Sheet) (m : Machine) (Q : Turn → Type 0) → ((e : End) → Q (ended e))
-    → Then (λ k. Q (stepped (lineNow s m) (withPosition (s .counts) k (current (m .lists)) (nextNow s m)))) (perform (s .counts) (callNow s m) m)
-    → Q (turn s 1 m)
-unfolding turn step
-turn-cases s m Q f g = test (atEnd s m) (λ e. rw e (f Finished)) (λ e. rw e (go (perform (s .counts) (callNow s m) m) g))
-  where
-    go : (r : Result Machine) → Then (λ k. Q (stepped (lineNow s m) (withPosition (s .counts) k (current (m .lists)) (nextNow s m)))) r → Q (moving s m r)
-    go (refused r) h = f (Refused r)
-    go (done k) h = h
 
 -- what a run needs to go on
 pub record Going (s : Sheet) (m : Machine) : Type 0 where

@@ -1,9 +1,8 @@
 -- The calls of a step on a run's tables: the published procedures on the model's, accum on the flat list of words.
-use Prim.Native.Nat.{ℕ, _+_, _-_}
+use Prim.Native.Nat.{ℕ, _-_}
 use mathlib.Core.List.{List}
 use lib.Dec.{ltb, eqb}
 use lib.IntN.{ℤ}
-use lib.ListN.{getD}
 use Rattle.rings.specs.Lists.{if_then_else_}
 use Rattle.counts.specs.declared.Counts.{Counts}
 use Rattle.counts.specs.Counts.{isHead, linkageAt}

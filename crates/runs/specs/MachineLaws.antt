@@ -17,14 +17,14 @@ use Rattle.sheet.specs.Sheet.{countsOf, recordsOf, startAt, Sheet, sheetOf}
 use Rattle.sheet.specs.Accepted.{headerOf, accepted}
 use Rattle.sheet.specs.Fields.{Ranged}
 use Rattle.sheet.specs.Ranges.{starts-listed, records-listed, start-listed, record-listed, allowed-counts, start-in, record-in}
 use Rattle.machine.specs.Machine.{Machine, fresh}
 use Rattle.machine.specs.Steps.{recordOf}
 use Rattle.machine.specs.Run.{uncut, state}
 use Rattle.machine.specs.History.{Stepwise, Ties, placing, noticesAt}
 use Rattle.machine.specs.HistoryLaw.{ties-of}
 use Rattle.machine.specs.Invariant.{InRange, Invariant}
 use Rattle.machine.specs.GoesFirst.{GoesFirst, goes-first}
-use Rattle.machine.specs.TurnLaws.{Going, turn-going, turn-stepwise, turn-forward}
+use Rattle.runs.specs.MachineTurns.{Going, turn-going, turn-stepwise, turn-forward}
 
 -- after n steps
 pub record Laws (s : Sheet) (n : ℕ) : Type 0 where

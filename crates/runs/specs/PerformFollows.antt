@@ -23,10 +23,10 @@ use Rattle.accumulator.specs.declared.Updated.the-variants.{To, Refused as NotU
 use Rattle.accumulator.specs.Update.{updatedOf}
 use Rattle.accumulator.specs.Flat.{Changed, updatedIn}
 use Rattle.accumulator.specs.Triples.{flat, numbered, listAfter, updatedAt, flat-updated}
 use Rattle.machine.specs.Machine.{Machine}
 use Rattle.machine.specs.Calls.{SetCall, out, follow, precede, into, clear, ListCall, onSet, hold, passivate, wait, cancel, activate, ifEmpty, finish, Call, onList, accum, kindsFine, setsAfter, listsAfter, lifted, storing, perform}
-use Rattle.machine.specs.OnTables.{linksAfter, tablesAfter, Carried, carriedOut}
-use Rattle.machine.specs.Reading.{time-at}
+use Rattle.runs.specs.OnTables.{linksAfter, tablesAfter, Carried, carriedOut}
+use Rattle.runs.specs.Resolving.{time-at}
 
 -- ---- the calls on lists
 

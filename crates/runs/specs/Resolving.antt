@@ -6,7 +6,6 @@ use mathlib.Core.Bool.{true}
 use mathlib.Core.List.{List, [], _∷_}
 use native.Mathlib.Omega.{arith}
 use lib.Dec.{ltb, eqb}
-use lib.ListN.{getD}
 use borrow.Author.Tests.{leb-true, leb-false, ltb-false, eqb-false, lt-ltb}
 use Rattle.rings.specs.Lists.{In, test}
 use Rattle.rings.specs.Chain.{Chain}
@@ -26,8 +25,8 @@ use Rattle.sequencing.specs.Calls.{sqsOf, currentTold, timeTold}
 use Rattle.sequencing.specs.QueryMeaning.{current-means, time-means}
 use Rattle.sheet.specs.Accepted.{isOperand}
 use Rattle.sheet.specs.Fields.{operand-high}
 use Rattle.machine.specs.Steps.{firstIn, operandOf}
-use Rattle.machine.specs.OnTables.{currentAt, firstAt, operandWith, operandAt}
+use Rattle.runs.specs.OnTables.{currentAt, firstAt, operandWith, operandAt}
 use Rattle.model.specs.Now.{timeOf, firstOf, half}
 
 -- the successor of a head is its first member, none where it has none
