@@ -8,3 +8,4 @@ pub mod Calls
 pub mod Promise
 pub mod Picks
 pub mod Runs
+pub mod Meaning

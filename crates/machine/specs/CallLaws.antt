@@ -16,8 +16,7 @@ use Rattle.model.specs.Notices.{Notice, whos, InOrder}
 use Rattle.model.specs.Tables.{Lists}
 use Rattle.sets.specs.Calls.{orNone}
 use Rattle.sets.specs.Sets.{precedeSets}
-use Rattle.sets.specs.Meaning.{withSets}
-use Rattle.sequencing.specs.NoticeOps.{behindAll, dropped, hasNotice, rest, first}
+use Rattle.sequencing.specs.NoticeOps.{behindAll, dropped, hasNotice, rest}
 use Rattle.sequencing.specs.NoticeLaws.{rest-drop, drop-in}
 use Rattle.sequencing.specs.BesideLaws.{before-none, after-none}
 use Rattle.sequencing.specs.AgreeEnds.{has-in, has-none}
@@ -26,11 +25,14 @@ use Rattle.sequencing.specs.StepPromise.{clause-in}
 use Rattle.sequencing.specs.Replace.{timedDropFirst, drop-first}
 use Rattle.sequencing.specs.Ties.{is-behind}
 use Rattle.sequencing.specs.Forward.{Later, hold-forward, passivate-forward, cancel-forward, finish-forward, wait-forward, timed-forward}
-use Rattle.sequencing.specs.Plain.{Result, refused, done, current, time, withNotices, withTerminated, need, above, leaving, upTo, dueFor, placed, noEffect, timedNeed}
+use Rattle.sequencing.specs.Plain.{withNotices, withTerminated, above, leaving, upTo, dueFor, placed, noEffect, timedNeed}
 use Rattle.sequencing.specs.Plain as plain
-use Rattle.machine.specs.Calls.{ListCall, onSet, hold, passivate, wait, cancel, activate, ifEmpty, finish, kindsFine, setsAfter, listsAfter}
+use Rattle.machine.specs.Calls.{ListCall, onSet, hold, passivate, wait, cancel, activate, ifEmpty, finish, listsAfter}
 use Rattle.machine.specs.History.{behind, Placing, nothing, places, howOf, clausePlacing, timedPlacing, listPlacing, Stepwise}
 use Rattle.machine.specs.StepLaws.{stepwise-same, stepwise-drop, stepwise-placed}
+use Rattle.model.specs.Result.{need, done, refused, Result}
+use Rattle.model.specs.Now.{first, time, current}
+use Rattle.sets.specs.Plain.{withSets, setsAfter, kindsFine}
 
 -- refused, or done with the notices of this law
 abbrev pub Notices : Placing → List Notice → Result Lists → Type 0

@@ -8,13 +8,15 @@ use lib.ListN.{getD}
 use Rattle.rings.specs.Lists.{if_then_else_}
 use Rattle.model.specs.Tables.{Lists, membersOf}
 use Rattle.sets.specs.Sets.{noLinks}
-use Rattle.sequencing.specs.Plain.{Result, refused, done, current, time}
 use Rattle.sheet.specs.declared.records.Record.{Record}
 use Rattle.sheet.specs.Sheet.{Sheet}
 use Rattle.machine.specs.declared.End.{End}
 use Rattle.machine.specs.declared.End.the-variants.{Refused}
 use Rattle.machine.specs.Machine.{Machine, positionOf, withPosition}
-use Rattle.machine.specs.Calls.{out, follow, precede, into, clear, onSet, hold, passivate, wait, cancel, activate, ifEmpty, finish, Call, onList, accum, perform}
+use Rattle.machine.specs.Calls.{onSet, hold, passivate, wait, cancel, activate, ifEmpty, finish, Call, onList, accum, perform}
+use Rattle.model.specs.Result.{done, refused, Result}
+use Rattle.model.specs.Now.{time, current}
+use Rattle.sets.specs.Plain.{clear, into, precede, follow, out}
 
 -- the first of a list, none if it is empty
 abbrev pub firstIn : List ℕ → ℕ

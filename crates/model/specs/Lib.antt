@@ -7,6 +7,7 @@ pub mod Tests
 pub mod AxisJudged
 pub mod Reading
 pub mod Formed
+pub mod NowLaws
 pub mod Only
 pub mod Once
 pub mod Verdict
@@ -14,3 +15,4 @@ pub mod Ready
 pub mod Positions
 pub mod Fresh
 pub mod Answers
+pub mod Result

@@ -1,8 +1,24 @@
--- "Current is the process of the first notice; time is its time": the place of the first notice, and its time.
+-- "Current is the process of the first notice; time is its time": on the lists, and read off the tables. NowLaws.antt says that both agree.
 use Prim.Native.Nat.{ℕ, _+_, _-_}
-use mathlib.Core.List.{List}
+use mathlib.Core.List.{List, [], _∷_}
 use lib.ListN.{getD}
 use Rattle.counts.specs.declared.Counts.{Counts}
+use Rattle.model.specs.Notices.{Notice}
+use Rattle.model.specs.Tables.{Lists}
+
+-- ---- on the lists
+
+abbrev pub first : List Notice → Notice
+first [] = record { who = 0; due = 0 }
+first (n ∷ ns) = n
+
+abbrev pub current : Lists → ℕ
+current l = first (l .notices) .who
+
+abbrev pub time : Lists → ℕ
+time l = first (l .notices) .due
+
+-- ---- on the tables
 
 -- the words of half an axis: P + 2
 abbrev pub half : Counts → ℕ

@@ -24,14 +24,15 @@ use Rattle.sequencing.specs.ReadPromise.{on-sqs, on-marks, on-sets}
 use Rattle.sequencing.specs.Calls.{holdStep, passivateStep, cancelStep, timedStep, finishStep, waitStep}
 use Rattle.accumulator.specs.Flat.{Changed, updatedIn}
 use Rattle.sheet.specs.declared.records.Record.{Record}
-use Rattle.machine.specs.Calls.{SetCall, out, follow, precede, into, clear, ListCall, onSet, hold, passivate, wait, cancel, activate, ifEmpty, finish, Call, onList, accum}
-use Rattle.runs.specs.OnTables.{operandWith, linksAfter, tablesAfter, Carried, carriedOut}
+use Rattle.machine.specs.Calls.{ListCall, onSet, hold, passivate, wait, cancel, activate, ifEmpty, finish, Call, onList, accum}
+use Rattle.runs.specs.OnTables.{operandWith, tablesAfter, Carried, carriedOut}
 use Rattle.runs.specs.declared.Effect.{Effect}
 use Rattle.runs.specs.declared.Effect.the-variants.{Stays, Jumps, Moves}
 use Rattle.runs.specs.Run.{resolved, callDue}
 use Rattle.runs.specs.Performed.{listEffect, callEffect, effectOf, unlessRefused, branched, performed}
 use Rattle.runs.specs.Which as which
 use Rattle.model.specs.Now.{timeOf, half}
+use Rattle.sets.specs.Plain.{linksAfter, clear, into, precede, follow, out, SetCall}
 
 direct : (c : Counts) (x y : ℕ) (t : ℤ) (marks : List ℕ) (s : Sqs) → timedStep c false 0 x 0 (pos 0) marks s ≡ timedStep c false 0 x y t marks s
 unfolding timedStep activated dueAt

@@ -25,6 +25,7 @@ pub mod Stretching
 pub mod Between
 pub mod Judging
 pub mod RunIs
+pub mod Kept
 pub mod CallFollows
 pub mod Fresh
 pub mod Filling

@@ -16,8 +16,7 @@ use Rattle.model.specs.Tables.{Tables, Lists, Spells}
 use Rattle.model.specs.Notices.{whos}
 use Rattle.model.specs.Formed.{notice-each, notice-process}
 use Rattle.model.specs.Once.{spelled-sized}
-use Rattle.sequencing.specs.Plain.{Result, refused, done, current, time}
-use Rattle.sequencing.specs.Meaning.{Follows, split}
+use Rattle.sequencing.specs.Meaning.{split}
 use Rattle.sequencing.specs.Forward.{Later}
 use Rattle.accumulator.specs.declared.Updated.{Updated}
 use Rattle.accumulator.specs.declared.Updated.the-variants.{To, Refused as NotUpdated}
@@ -41,6 +40,8 @@ use Rattle.machine.specs.CallLaws.{Notices, call-notices, call-forward}
 use Rattle.runs.specs.OnTables.{tablesAfter}
 use Rattle.runs.specs.PerformFollows.{lists-follow}
 use Rattle.machine.specs.Invariant.{headerIs, InRange}
+use Rattle.model.specs.Result.{Follows, done, refused, Result}
+use Rattle.model.specs.Now.{time, current}
 
 -- the lists are those of some well-formed tables
 abbrev pub Spelled : Counts → Lists → Type 0

@@ -10,11 +10,12 @@ use Rattle.model.specs.declared.answer.Answer.{Answer}
 use Rattle.model.specs.declared.answer.Answer.the-variants.{Done}
 use Rattle.model.specs.Tables.{Tables, After}
 use Rattle.sets.specs.Procedures as sets
-use Rattle.sets.specs.Calls.{Linked, toldIf, outStep, followStep, precedeStep, intoStep, clearStep, onLinks}
+use Rattle.sets.specs.Calls.{toldIf, onLinks}
 use Rattle.sequencing.specs.Calls.{holdStep, passivateStep, cancelStep, timedStep, finishStep, waitStep, onSqs, onMarks, onSets}
 use Rattle.accumulator.specs.Flat.{updatedIn}
-use Rattle.machine.specs.Calls.{SetCall, out, follow, precede, into, clear, ListCall, onSet, hold, passivate, wait, cancel, activate, ifEmpty, finish, Call, onList, accum}
+use Rattle.machine.specs.Calls.{ListCall, onSet, hold, passivate, wait, cancel, activate, ifEmpty, finish, Call, onList, accum}
 use Rattle.model.specs.Now.{timeOf, firstOf, half}
+use Rattle.sets.specs.Plain.{linksAfter}
 
 -- ---- reading
 
@@ -33,13 +34,6 @@ abbrev pub operandAt : Counts → List ℕ → List ℕ → ℕ → ℕ
 operandAt c links axis v = operandWith c links (firstOf (half c) axis) v
 
 -- ---- calling
-
-abbrev pub linksAfter : Counts → SetCall → List ℕ → Linked
-linksAfter c (out x) t = outStep c x t
-linksAfter c (follow x y) t = followStep c x y t
-linksAfter c (precede x y) t = precedeStep c x y t
-linksAfter c (into x y) t = intoStep c x y t
-linksAfter c (clear x) t = clearStep c x t
 
 unfoldable pub tablesAfter : Counts → ListCall → Tables → After Answer
 tablesAfter c (onSet k) t = onLinks (linksAfter c k) t

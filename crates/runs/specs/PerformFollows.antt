@@ -1,32 +1,32 @@
 -- Every call on tables that spell the machine does what the machine's call does, with the same refusals.
 use Prim.Native.Nat.{ℕ}
 use mathlib.Core.Path.{_≡_, refl, sym, ap, _∙_, subst}
-use mathlib.Core.Bool.{true, false}
 use mathlib.Core.List.{List}
 use lib.IntN.{ℤ}
 use Rattle.rings.specs.Lists.{test}
 use Rattle.counts.specs.declared.Counts.{Counts}
-use Rattle.counts.specs.declared.Refusal.the-variants.{Operand}
 use Rattle.counts.specs.Counts.{isHead}
 use Rattle.model.specs.declared.answer.Answer.{Answer}
 use Rattle.model.specs.declared.answer.Answer.the-variants.{Done, Refused}
 use Rattle.model.specs.Tables.{Tables, Lists, After, Sized, Spells}
 use Rattle.model.specs.Answers.{called}
-use Rattle.sets.specs.Calls.{outStep, followStep, precedeStep, intoStep, clearStep, onLinks}
-use Rattle.sets.specs.Meaning.{Does, withSets, called-is, out-means, follow-means, precede-means, into-means, clear-means}
-use Rattle.sequencing.specs.Plain.{Result, refused, done, time}
+use Rattle.sets.specs.Calls.{onLinks}
+use Rattle.sets.specs.Meaning.{called-is, set-means}
 use Rattle.sequencing.specs.Plain as plain
 use Rattle.sequencing.specs.Calls.{holdStep, passivateStep, cancelStep, timedStep, finishStep, waitStep, onSqs, onMarks, onSets}
-use Rattle.sequencing.specs.Meaning.{Follows, hold-means, passivate-means, wait-means, cancel-means, timed-means, finish-means}
+use Rattle.sequencing.specs.Meaning.{hold-means, passivate-means, wait-means, cancel-means, timed-means, finish-means}
 use Rattle.accumulator.specs.declared.Updated.{Updated}
 use Rattle.accumulator.specs.declared.Updated.the-variants.{To, Refused as NotUpdated}
 use Rattle.accumulator.specs.Update.{updatedOf}
 use Rattle.accumulator.specs.Flat.{Changed, updatedIn}
 use Rattle.accumulator.specs.Triples.{flat, numbered, listAfter, updatedAt, flat-updated}
 use Rattle.machine.specs.Machine.{Machine}
-use Rattle.machine.specs.Calls.{SetCall, out, follow, precede, into, clear, ListCall, onSet, hold, passivate, wait, cancel, activate, ifEmpty, finish, Call, onList, accum, kindsFine, setsAfter, listsAfter, lifted, storing, perform}
-use Rattle.runs.specs.OnTables.{linksAfter, tablesAfter, Carried, carriedOut}
+use Rattle.machine.specs.Calls.{ListCall, onSet, hold, passivate, wait, cancel, activate, ifEmpty, finish, Call, onList, accum, listsAfter, lifted, storing, perform}
+use Rattle.runs.specs.OnTables.{tablesAfter, Carried, carriedOut}
 use Rattle.runs.specs.Resolving.{time-at}
+use Rattle.model.specs.Result.{Follows, done, refused, Result}
+use Rattle.model.specs.Now.{time}
+use Rattle.sets.specs.Plain.{setCall, linksAfter}
 
 -- ---- the calls on lists
 
@@ -35,30 +35,9 @@ module _ (c : Counts) (l : Lists) (t : Tables) (w : Sized c t) (s : Spells c l t
   by-call : (r : Result Lists) (f : Tables → After Answer) → Follows c t r (called c f t) → Follows c t r (f t)
   by-call r f a = subst (Follows c t r) (called-is c l t w s f) a
 
-  set-done : (k : SetCall) → kindsFine c k ≡ true → Follows c t (done (withSets l (setsAfter k (l .sets)))) (onLinks (linksAfter c k) t)
-  set-done k e = go k e
-    where
-      does : (sets : List (List ℕ)) (f : Tables → After Answer) → Does c l sets (called c f t) → Follows c t (done (withSets l sets)) (f t)
-      does sets f d = by-call (done (withSets l sets)) f (d .answer, d .tables)
-
-      go : (k : SetCall) → kindsFine c k ≡ true → Follows c t (done (withSets l (setsAfter k (l .sets)))) (onLinks (linksAfter c k) t)
-      go (out x) e = does _ (onLinks (outStep c x)) (out-means c l t w s x e)
-      go (follow x y) e = does _ (onLinks (followStep c x y)) (follow-means c l t w s x y e)
-      go (precede x y) e = does _ (onLinks (precedeStep c x y)) (precede-means c l t w s x y e)
-      go (into x y) e = does _ (onLinks (intoStep c x y)) (into-means c l t w s x y e)
-      go (clear x) e = does _ (onLinks (clearStep c x)) (clear-means c l t w s x e)
-
-  set-refused : (k : SetCall) → kindsFine c k ≡ false → Follows c t (refused Operand) (onLinks (linksAfter c k) t)
-  unfolding outStep followStep precedeStep intoStep clearStep
-  set-refused (out x) e = rw e (refl, refl)
-  set-refused (follow x y) e = rw e (refl, refl)
-  set-refused (precede x y) e = rw e (refl, refl)
-  set-refused (into x y) e = rw e (refl, refl)
-  set-refused (clear x) e = rw e (refl, refl)
-
   pub lists-follow : (k : ListCall) → Follows c t (listsAfter c k l) (tablesAfter c k t)
   unfolding listsAfter tablesAfter
-  lists-follow (onSet k) = test (kindsFine c k) (λ e. rw e (set-done k e)) (λ e. rw e (set-refused k e))
+  lists-follow (onSet k) = by-call (setCall c k l) (onLinks (linksAfter c k)) (set-means c l t w s k)
   lists-follow (hold z) = by-call (plain.hold z l) (onSqs (λ m a. holdStep c z a)) (hold-means c l t w s z)
   lists-follow passivate = by-call (plain.passivate l) (onSqs (λ m a. passivateStep c a)) (passivate-means c l t w s)
   lists-follow (wait y) = by-call (plain.wait c y l) (onSets (λ k a. waitStep c y k a)) (wait-means c l t w s y)

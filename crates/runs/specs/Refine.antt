@@ -15,7 +15,6 @@ use Rattle.counts.specs.Counts.{main, isHead, linkageAt}
 use Rattle.model.specs.Tables.{Lists, Sized, membersOf}
 use Rattle.sets.specs.Procedures.{emptyOf}
 use Rattle.sets.specs.Sets.{noLinks}
-use Rattle.sequencing.specs.Plain.{current, time}
 use Rattle.sheet.specs.declared.records.Record.{Record}
 use Rattle.sheet.specs.Sheet.{countsOf, recordsOf, recordWith, Sheet, sheetOf}
 use Rattle.sheet.specs.Accepted.{isOperand, accepted}
@@ -29,7 +28,7 @@ use Rattle.runs.specs.OnTables.{operandAt}
 use Rattle.runs.specs.Resolving.{current-at, time-at, operand-plain, operand-at, empty-at}
 use Rattle.runs.specs.Run.{RunTables, resolved, callDue, recordAtNow, lineIn, endsNow}
 use Rattle.runs.specs.Standing.{Stands, Standing, sized, ready, its-range}
-use Rattle.model.specs.Now.{half, firstOf}
+use Rattle.model.specs.Now.{time, current, half, firstOf}
 
 -- the bytes of a line
 abbrev pub bytesOf : Line → List ℕ

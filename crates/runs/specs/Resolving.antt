@@ -12,22 +12,19 @@ use Rattle.rings.specs.Chain.{Chain}
 use Rattle.rings.specs.Rings.{Head}
 use Rattle.rings.specs.Stores.{sucs, pres, suc-at}
 use Rattle.counts.specs.declared.Counts.{Counts}
-use Rattle.counts.specs.Counts.{total, isHead, linkageAt}
-use Rattle.model.specs.declared.answer.Answer.the-variants.{Linkage, Number}
+use Rattle.counts.specs.Counts.{total, isHead}
 use Rattle.model.specs.Tables.{Tables, Lists, Sized, setHead, membersOf, SpellsSets, Spells}
 use Rattle.sets.specs.Procedures as procedures
 use Rattle.sets.specs.Sets.{noLinks}
 use Rattle.sets.specs.Laws.{set-head}
 use Rattle.sets.specs.QueryLaws.{or-link, or-none, empty-says}
-use Rattle.sets.specs.Meaning.{asked-is, head-of}
-use Rattle.sequencing.specs.Plain.{current, time}
-use Rattle.sequencing.specs.Calls.{sqsOf, currentTold, timeTold}
-use Rattle.sequencing.specs.QueryMeaning.{current-means, time-means}
+use Rattle.sets.specs.Meaning.{head-of}
 use Rattle.sheet.specs.Accepted.{isOperand}
 use Rattle.sheet.specs.Fields.{operand-high}
 use Rattle.machine.specs.Steps.{firstIn, operandOf}
 use Rattle.runs.specs.OnTables.{currentAt, firstAt, operandWith, operandAt}
-use Rattle.model.specs.Now.{timeOf, firstOf, half}
+use Rattle.model.specs.NowLaws.{current-now, time-now}
+use Rattle.model.specs.Now.{time, current, timeOf, half}
 
 -- the successor of a head is its first member, none where it has none
 first-of : (m H : ℕ) (sets : List (List ℕ)) (t : List ℕ) → SpellsSets m H sets t → (h : ℕ) → Head m (setHead H) h → procedures.sucOf H h t ≡ firstIn (membersOf sets h)
@@ -39,17 +36,10 @@ first-of m H sets t s h a = go (membersOf sets h) (s .spelled .rings .ring h a) 
 
 module _ (c : Counts) (l : Lists) (t : Tables) (w : Sized c t) (s : Spells c l t) where
   pub current-at : currentAt c (t .axis) ≡ current l
-  unfolding currentTold
-  current-at =
-      let e : Linkage (linkageAt c (firstOf (half c) (t .axis))) ≡ Linkage (current l) =
-      sym (asked-is c l t w s (λ k. currentTold c (sqsOf k))) ∙ current-means c l t w s in
-      cc
+  current-at = current-now c l t s
 
   pub time-at : timeOf (half c) (t .axis) (t .times) ≡ time l
-  unfolding timeTold
-  time-at =
-      let e : Number (timeOf (half c) (t .axis) (t .times)) ≡ Number (time l) = sym (asked-is c l t w s (λ k. timeTold c (sqsOf k))) ∙ time-means c l t w s in
-      cc
+  time-at = time-now c l t s
 
   pub first-at : (h : ℕ) → 1 ≤ h → h ≤ c .heads → firstAt c (t .links) h ≡ firstIn (membersOf (l .sets) h)
   first-at h a b = first-of (total c + 1) (c .heads) (l .sets) (t .links) (s .links) h (set-head (total c + 1) (c .heads) h a b (omega arith))

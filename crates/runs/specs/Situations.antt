@@ -20,13 +20,15 @@ use Rattle.model.specs.Tables.{Tables, After}
 use Rattle.model.specs.Fresh.{freshHeads, freshAxis, freshTables}
 use Rattle.sets.specs.Procedures.{followOn, followed, precedeOn, preceded}
 use Rattle.sets.specs.Calls.{followStep, intoStep}
-use Rattle.sequencing.specs.Plain.{Result, refused, done, dueFor, placed, noEffect, timed}
+use Rattle.sequencing.specs.Plain.{dueFor, placed, noEffect, timed}
 use Rattle.sequencing.specs.Plain as plain
 use Rattle.sequencing.specs.Procedures.{seekFrom, found, dropOn, putOn, heldAt, held, passivated, cancelled, vain, dueAt, placeFor, putByClause, activated}
 use Rattle.sequencing.specs.Calls.{holdStep, timedStep}
 use Rattle.machine.specs.Machine.{Machine, fresh}
-use Rattle.machine.specs.Calls.{follow, into, ListCall, onSet, hold, activate, onList, listsAfter, perform}
+use Rattle.machine.specs.Calls.{ListCall, onSet, hold, activate, onList, listsAfter, perform}
 use Rattle.runs.specs.OnTables.{tablesAfter}
+use Rattle.model.specs.Result.{done, refused, Result}
+use Rattle.sets.specs.Plain.{into, follow}
 
 -- ---- a model with one head, S, and four processes: M is main; A, B, C are processes
 

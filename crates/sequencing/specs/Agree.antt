@@ -17,7 +17,7 @@ use Rattle.model.specs.declared.answer.Answer.the-variants.{Done, Refused}
 use Rattle.model.specs.Notices.{Notice, InOrder}
 use Rattle.model.specs.Tables.{Tables, Lists, Spells}
 use Rattle.sequencing.specs.NoticeOps.{behindAll}
-use Rattle.sequencing.specs.Plain.{Result, refused, done, withNotices, above, hold}
+use Rattle.sequencing.specs.Plain.{withNotices, above, hold}
 use Rattle.sequencing.specs.NoticeLaws.{rest-drop}
 use Rattle.sequencing.specs.PutLaws.{last-ins, last-sorted}
 use Rattle.sequencing.specs.NoticesKept.{NoticesKept, kept-ins}
@@ -27,6 +27,7 @@ use Rattle.sequencing.specs.Calls.{sqsOf}
 use Rattle.sequencing.specs.Places.{SpellsTime, Process, chain, off-head, once, is-process, times-at, times-set, drop-spells}
 use Rattle.sequencing.specs.Spots.{put-spells, found-spot}
 use Rattle.model.specs.Now.{timeOf, firstOf, half}
+use Rattle.model.specs.Result.{done, refused, Result}
 
 -- ---- what a call leaves, and what the machine answers
 

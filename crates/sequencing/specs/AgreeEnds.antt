@@ -19,17 +19,18 @@ use Rattle.model.specs.Tables.{Tables, Lists, Spells}
 use Rattle.sets.specs.Calls.{orNone}
 use Rattle.sets.specs.Sets.{precedeSets}
 use Rattle.sequencing.specs.Choice.{and-left, and-right}
-use Rattle.sequencing.specs.NoticeOps.{dropped, hasNotice, rest, first}
-use Rattle.sets.specs.Meaning.{withSets}
-use Rattle.sequencing.specs.Plain.{refused, done, current, withNotices, withTerminated, leaving, passivate, wait, cancel, finish}
+use Rattle.sequencing.specs.NoticeOps.{dropped, hasNotice, rest}
+use Rattle.sequencing.specs.Plain.{withNotices, withTerminated, leaving, passivate, wait, cancel, finish}
 use Rattle.sequencing.specs.NoticeLaws.{drop-old, drop-none}
 use Rattle.sequencing.specs.NoticesKept.{NoticesKept, some-in, kept-drop, kept-rest}
 use Rattle.sequencing.specs.Procedures.{Sqs, made, turnedDown, idleAt, lone, dropOn, passivated, cancelled, finishedMarks}
 use Rattle.sequencing.specs.ByDue.{listed-set}
 use Rattle.sequencing.specs.Places.{SpellsTime, Process, once, is-process, linked, idle-is, drop-spells}
 use Rattle.sequencing.specs.Agree.{withSqs, Agrees, AgreesMarked, respell, first-is, process-first, rest-spells, lone-yes, lone-no, st, kt}
-use Rattle.model.specs.Now.{firstOf, half}
+use Rattle.model.specs.Now.{first, current, firstOf, half}
 use Rattle.sequencing.specs.Calls.{sqsOf}
+use Rattle.model.specs.Result.{done, refused}
+use Rattle.sets.specs.Plain.{withSets}
 
 -- x may be terminated
 abbrev Ended : Counts → ℕ → List Notice → Type 0

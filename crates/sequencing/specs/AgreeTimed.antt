@@ -18,7 +18,7 @@ use Rattle.sets.specs.Calls.{orNone}
 use Rattle.model.specs.Reading.{due-none}
 use Rattle.sequencing.specs.Choice.{and-left, and-right}
 use Rattle.sequencing.specs.NoticeOps.{dropped, hasNotice}
-use Rattle.sequencing.specs.Plain.{done, time, withNotices, above, leaving, dueFor, placed, noEffect, timedNeed}
+use Rattle.sequencing.specs.Plain.{withNotices, above, leaving, dueFor, placed, noEffect, timedNeed}
 use Rattle.sequencing.specs.NoticeLaws.{ins-new, drop-in, drop-gone, drop-old, drop-sorted, drop-from, drop-due}
 use Rattle.sequencing.specs.BesideLaws.{before-none, after-none}
 use Rattle.sequencing.specs.NoticesKept.{NoticesKept, kept-ins, dropped-within, dropped-idle}
@@ -31,8 +31,9 @@ use Rattle.sequencing.specs.Places.{SpellsTime, Process, is-process, tim
 use Rattle.sequencing.specs.Spots.{Spot, put-spells, found-spot, first-spot, after-spot, before-spot}
 use Rattle.sequencing.specs.Agree.{Agrees, its-time, its-kept, respell, st, time-is}
 use Rattle.sequencing.specs.AgreeEnds.{Party, party, has-in, has-none, idle-has, drop-agrees}
-use Rattle.model.specs.Now.{timeOf, half}
+use Rattle.model.specs.Now.{time, timeOf, half}
 use Rattle.sequencing.specs.Calls.{sqsOf}
+use Rattle.model.specs.Result.{done}
 
 -- ---- numbers and tests
 

@@ -15,15 +15,17 @@ use Rattle.model.specs.Notices.{Notice, whos, From, InOrder}
 use Rattle.model.specs.Tables.{Lists}
 use Rattle.sets.specs.Calls.{orNone}
 use Rattle.sets.specs.Sets.{precedeSets}
-use Rattle.sets.specs.Meaning.{withSets}
-use Rattle.sequencing.specs.NoticeOps.{behindAll, dropped, hasNotice, rest, first}
-use Rattle.sequencing.specs.Plain.{Result, refused, done, current, time, withNotices, withTerminated, need, above, leaving, upTo, hold, passivate, wait, cancel, finish, dueFor, placed, noEffect, timedNeed, timed}
+use Rattle.sequencing.specs.NoticeOps.{behindAll, dropped, hasNotice, rest}
+use Rattle.sequencing.specs.Plain.{withNotices, withTerminated, above, leaving, upTo, hold, passivate, wait, cancel, finish, dueFor, placed, noEffect, timedNeed, timed}
 use Rattle.sequencing.specs.NoticeLaws.{drop-in, ins-from, from-due, drop-from}
 use Rattle.sequencing.specs.PutLaws.{last-ins, front-ins}
 use Rattle.sequencing.specs.BesideLaws.{before-ins, after-ins, before-none, after-none}
 use Rattle.sequencing.specs.StepPromise.{clause-in}
 use Rattle.sequencing.specs.Replace.{timedDropFirst, drop-first}
 use Rattle.sequencing.specs.AgreeEnds.{has-in, has-none}
+use Rattle.model.specs.Result.{need, done, refused, Result}
+use Rattle.model.specs.Now.{first, time, current}
+use Rattle.sets.specs.Plain.{withSets}
 
 -- refused, or done at a time that is at least t
 abbrev pub Later : ℕ → Result Lists → Type 0

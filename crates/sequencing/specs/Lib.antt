@@ -13,6 +13,7 @@ pub mod Places
 pub mod Spots
 pub mod Plain
 pub mod Calls
+pub mod Kept
 pub mod Published
 pub mod RankLaws
 pub mod Promise

@@ -15,10 +15,9 @@ use Rattle.rings.specs.Lists.{decide, test, clash}
 use Rattle.counts.specs.declared.Counts.{Counts}
 use Rattle.counts.specs.declared.Refusal.the-variants.{Operand, NoNotice}
 use Rattle.counts.specs.Counts.{total, main, isHead, isProcess, isLink}
-use Rattle.model.specs.declared.answer.Answer.{Answer}
 use Rattle.model.specs.declared.answer.Answer.the-variants.{Done, Refused}
 use Rattle.model.specs.Notices.{Notice}
-use Rattle.model.specs.Tables.{Tables, Lists, After, Sized, Spells}
+use Rattle.model.specs.Tables.{Tables, Lists, Sized, Spells}
 use Rattle.model.specs.Formed.{notice-process}
 use Rattle.model.specs.Answers.{called}
 use Rattle.sets.specs.Calls.{orNone}
@@ -26,9 +25,8 @@ use Rattle.sets.specs.Sets.{precedeSets}
 use Rattle.sets.specs.Procedures.{preceded}
 use Rattle.sets.specs.Promise.{none-or, head-in}
 use Rattle.sets.specs.Laws.{sets-preceded}
-use Rattle.sets.specs.Meaning.{called-is, link-of, withSets}
-use Rattle.sequencing.specs.NoticeOps.{first}
-use Rattle.sequencing.specs.Plain.{Result, refused, done, current, above, hold, passivate, wait, cancel, finish, dueFor, placed, noEffect, timedNeed, timed}
+use Rattle.sets.specs.Meaning.{called-is, link-of}
+use Rattle.sequencing.specs.Plain.{above, hold, passivate, wait, cancel, finish, dueFor, placed, noEffect, timedNeed, timed}
 use Rattle.sequencing.specs.Procedures.{Sqs, Outcome, made, turnedDown, lone, dropOn, passivated, activated}
 use Rattle.sequencing.specs.Calls.{sqsOf, Marked, holdStep, passivateStep, cancelStep, timedStep, finishStep, waitStep, onSqs, onMarks, onSets}
 use Rattle.sequencing.specs.Places.{Process}
@@ -36,12 +34,9 @@ use Rattle.sequencing.specs.Agree.{withSqs, withMarks, Agrees, AgreesMar
 use Rattle.sequencing.specs.AgreeEnds.{passivate-agrees, cancel-agrees, finish-agrees, lone-leaves, wait-agrees}
 use Rattle.sequencing.specs.Replace.{timedDropFirst, drop-first}
 use Rattle.sequencing.specs.AgreeTimed.{timed-agrees}
-use Rattle.model.specs.Now.{firstOf, half}
-
--- the call does what the plain call does
-abbrev pub Follows : Counts → Tables → Result Lists → After Answer → Type 0
-Follows c t (refused r) a = (a .answer ≡ Refused r) × (a .tables ≡ t)
-Follows c t (done l) a = (a .answer ≡ Done) × Spells c l (a .tables)
+use Rattle.model.specs.Now.{first, current, firstOf, half}
+use Rattle.model.specs.Result.{Follows, done, refused, Result}
+use Rattle.sets.specs.Plain.{withSets}
 
 follows-sqs : (c : Counts) (t : Tables) (r : Result Lists) (o : Outcome) → Agrees c t r o → Follows c t r (record { tables = withSqs t (o .left); answer = o .answer })
 follows-sqs c t (refused r) o g = (g .0, ap (withSqs t) (g .1))

@@ -39,8 +39,3 @@ hasNotice x (k ∷ ks) = if eqb (k .who) x then true else hasNotice x ks
 abbrev pub rest : List Notice → List Notice
 rest [] = []
 rest (n ∷ ns) = ns
-
--- the first notice: "Current is the process of the first notice; time is its time"
-abbrev pub first : List Notice → Notice
-first [] = record { who = 0; due = 0 }
-first (n ∷ ns) = n

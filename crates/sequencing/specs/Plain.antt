@@ -7,38 +7,22 @@ use lib.IntN.{ℤ, pos, negsuc, _+ℤ_}
 use Rattle.rings.specs.Lists.{if_then_else_}
 use Rattle.rings.specs.Tabulate.{has}
 use Rattle.counts.specs.declared.Counts.{Counts}
-use Rattle.counts.specs.declared.Refusal.{Refusal}
-use Rattle.counts.specs.declared.Refusal.the-variants.{Operand, NoNotice, TimeLimit}
+use Rattle.counts.specs.declared.Refusal.the-variants.{NoNotice, TimeLimit}
 use Rattle.counts.specs.Counts.{limit, main, isHead, isProcess}
 use Rattle.model.specs.Notices.{Notice, dueOf}
 use Rattle.model.specs.Tables.{Lists}
+use Rattle.model.specs.Now.{current, time}
+use Rattle.model.specs.Result.{Result, refused, done, need}
 use Rattle.sets.specs.Sets.{precedeSets}
 use Rattle.sets.specs.Calls.{orNone}
-use Rattle.sets.specs.Meaning.{withSets}
-use Rattle.sequencing.specs.NoticeOps.{behindAll, frontAll, before, after, dropped, hasNotice, rest, first}
-
--- a call is refused, or leaves something: lists, or the whole machine of a run
-pub data Result (A : Type 0) : Type 0 where
-  refused : Refusal → Result A
-  done : A → Result A
-
--- "Current is the process of the first notice; time is its time"
-abbrev pub current : Lists → ℕ
-current l = first (l .notices) .who
-
-abbrev pub time : Lists → ℕ
-time l = first (l .notices) .due
+use Rattle.sequencing.specs.NoticeOps.{behindAll, frontAll, before, after, dropped, hasNotice, rest}
+use Rattle.sets.specs.Plain.{withSets}
 
 abbrev pub withNotices : Lists → List Notice → Lists
 withNotices l ns = record { sets = l .sets; notices = ns; terminated = l .terminated }
 
 abbrev pub withTerminated : Lists → List ℕ → Lists
 withTerminated l k = record { sets = l .sets; notices = l .notices; terminated = k }
-
--- refusal 3, by the kind of an operand
-abbrev pub need : Bool → Result Lists → Result Lists
-need true r = r
-need false r = refused Operand
 
 -- refusal 4: the call would leave no notice
 abbrev pub leaving : Lists → List Notice → Result Lists

@@ -13,10 +13,12 @@ use Rattle.counts.specs.declared.Refusal.the-variants.{NoNotice}
 use Rattle.model.specs.Notices.{Notice, dueOf}
 use Rattle.model.specs.Tables.{Lists}
 use Rattle.sets.specs.Sets.{precedeSets}
-use Rattle.sets.specs.Meaning.{withSets}
 use Rattle.sequencing.specs.NoticeOps as ops
 use Rattle.sequencing.specs.NoticeOps.{dropped, hasNotice, rest}
-use Rattle.sequencing.specs.Plain.{Result, refused, done, current, time, withNotices, withTerminated, upTo, above, isDelay, named}
+use Rattle.sequencing.specs.Plain.{withNotices, withTerminated, upTo, above, isDelay, named}
+use Rattle.model.specs.Result.{done, refused, Result}
+use Rattle.model.specs.Now.{time, current}
+use Rattle.sets.specs.Plain.{withSets}
 
 abbrev pub ERROR : Result Lists
 ERROR = refused NoNotice

@@ -22,18 +22,20 @@ use Rattle.model.specs.Formed.{notice-each, notice-process}
 use Rattle.model.specs.Answers.{called}
 use Rattle.sets.specs.Calls.{orNone}
 use Rattle.sets.specs.Sets.{precedeSets}
-use Rattle.sets.specs.Meaning.{withSets}
-use Rattle.sequencing.specs.NoticeOps.{behindAll, dropped, hasNotice, rest, first}
+use Rattle.sequencing.specs.NoticeOps.{behindAll, dropped, hasNotice, rest}
 use Rattle.sequencing.specs.NoticeLaws.{drop-old, drop-none, rest-drop}
 use Rattle.sequencing.specs.AgreeEnds.{has-none}
 use Rattle.sequencing.specs.Calls.{holdStep, passivateStep, cancelStep, timedStep, finishStep, waitStep, onSqs, onMarks, onSets}
-use Rattle.sequencing.specs.Plain.{Result, done, current, time, withNotices, withTerminated, need, upTo, leaving, above, timedNeed}
+use Rattle.sequencing.specs.Plain.{withNotices, withTerminated, upTo, leaving, above, timedNeed}
 use Rattle.sequencing.specs.Plain as plain
 use Rattle.sequencing.specs.Published.{addedTo, heldFirst, clauseCode, clausePrior, ACTIVATE}
 use Rattle.sequencing.specs.Published as published
 use Rattle.sequencing.specs.RankLaws.{rank-behind}
 use Rattle.sequencing.specs.ActivateLaws.{error-is, activate-is}
-use Rattle.sequencing.specs.Meaning.{Follows, split, hold-means, passivate-means, wait-means, cancel-means, finish-means, timed-means}
+use Rattle.sequencing.specs.Meaning.{split, hold-means, passivate-means, wait-means, cancel-means, finish-means, timed-means}
+use Rattle.model.specs.Result.{Follows, need, done, Result}
+use Rattle.model.specs.Now.{first, time, current}
+use Rattle.sets.specs.Plain.{withSets}
 
 -- ---- the plain machine's calls are the published procedures
 

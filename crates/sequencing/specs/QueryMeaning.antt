@@ -23,8 +23,7 @@ use Rattle.model.specs.Tables.{Tables, Lists, Sized, Spells}
 use Rattle.model.specs.Answers.{asked}
 use Rattle.sets.specs.Calls.{toldIf}
 use Rattle.sets.specs.Meaning.{asked-is}
-use Rattle.sequencing.specs.NoticeOps.{hasNotice, first}
-use Rattle.sequencing.specs.Plain.{current, time}
+use Rattle.sequencing.specs.NoticeOps.{hasNotice}
 use Rattle.sequencing.specs.Procedures.{Sqs, idleAt}
 use Rattle.sequencing.specs.Calls.{sqsOf, currentTold, timeTold, idleTold, terminatedTold, evtimeTold, nextevTold}
 use Rattle.model.specs.Reading.{who-place}
@@ -33,7 +32,7 @@ use Rattle.sequencing.specs.Agree.{its-time, st, first-is, process-first
 use Rattle.sequencing.specs.AgreeEnds.{Party, has-in, idle-has}
 use Rattle.sequencing.specs.AgreeTimed.{marks-at}
 use Rattle.sequencing.specs.Meaning.{split}
-use Rattle.model.specs.Now.{half}
+use Rattle.model.specs.Now.{first, time, current, half}
 
 -- the process of the notice after x's, none where x's is the last
 abbrev pub nextAfter : ℕ → List Notice → ℕ
@@ -72,8 +71,9 @@ bit-is : (b : Bool) → eqb (bit b) 1 ≡ b
 bit-is true = refl
 bit-is false = refl
 
-told-is : (b : Bool) (a r : Answer) → b ≡ true → a ≡ r → toldIf b a ≡ r
-told-is b a r e f = rw e f
+-- refused by its test, or told as the lists say
+told-by : (b : Bool) (a r : Answer) → (b ≡ true → a ≡ r) → toldIf b a ≡ toldIf b r
+told-by b a r f = test b (λ e. rw e (f e)) (λ e. rw e refl)
 
 process-of : (c : Counts) (x : ℕ) → isProcess c x ≡ true → Process c x
 process-of c x e =
@@ -111,44 +111,44 @@ module _ (c : Counts) (l : Lists) (t : Tables) (w : Sized c t) (s : Spells c l t
       asked-is c l t w s (λ k. timeTold c (sqsOf k))
       ∙ ap Number (time-is c n ns a (st c l t s n ns e) ∙ sym (ap (λ (k : List Notice). first k .due) e))
 
-  module _ (x : ℕ) (g : isProcess c x ≡ true) where
-    p : Process c x
-    p = process-of c x g
+  module _ (x : ℕ) where
+    idle-is : Process c x → idleAt a (x - c .heads) ≡ not (hasNotice x (l .notices))
+    idle-is p = idle-has c (l .notices) a spt x (Party.proc p)
 
-    idle-is : idleAt a (x - c .heads) ≡ not (hasNotice x (l .notices))
-    idle-is = idle-has c (l .notices) a spt x (Party.proc p)
-
-    pub idle-means : asked c (λ k. idleTold c x (sqsOf k)) t ≡ Truth (not (hasNotice x (l .notices)))
+    pub idle-means : asked c (λ k. idleTold c x (sqsOf k)) t ≡ toldIf (isProcess c x) (Truth (not (hasNotice x (l .notices))))
     unfolding idleTold
-    idle-means = asked-is c l t w s (λ k. idleTold c x (sqsOf k)) ∙ told-is (isProcess c x) _ _ g (ap Truth idle-is)
+    idle-means =
+        asked-is c l t w s (λ k. idleTold c x (sqsOf k)) ∙ told-by (isProcess c x) _ _ (λ g. ap Truth (idle-is (process-of c x g)))
 
-    pub terminated-means : asked c (λ k. terminatedTold c x (k .marks)) t ≡ Truth (has x (l .terminated))
+    pub terminated-means : asked c (λ k. terminatedTold c x (k .marks)) t ≡ toldIf (isProcess c x) (Truth (has x (l .terminated)))
     unfolding terminatedTold
     terminated-means =
         asked-is c l t w s (λ k. terminatedTold c x (k .marks))
-        ∙ told-is (isProcess c x) _ _ g (ap Truth (ap (λ (j : ℕ). eqb j 1) (marks-at c l t s n ns e x p) ∙ bit-is (has x (l .terminated))))
+        ∙ told-by (isProcess c x) _ _ (λ g.
+        ap Truth (ap (λ (j : ℕ). eqb j 1) (marks-at c l t s n ns e x (process-of c x g)) ∙ bit-is (has x (l .terminated))))
 
-    pub evtime-means : asked c (λ k. evtimeTold c x (sqsOf k)) t ≡ evtimeOf x (l .notices)
+    -- 6 exactly for an idle process
+    pub evtime-means : asked c (λ k. evtimeTold c x (sqsOf k)) t ≡ toldIf (isProcess c x) (evtimeOf x (l .notices))
     unfolding evtimeTold
     evtime-means =
         asked-is c l t w s (λ k. evtimeTold c x (sqsOf k))
-        ∙ told-is (isProcess c x) _ _ g
-        (test (hasNotice x (l .notices))
-        (λ h. rw (idle-is, h) (ap Number (times-at c (l .notices) a spt x p)))
-        (λ h. rw (idle-is, h)))
+        ∙ told-by (isProcess c x) _ _ (λ g.
+        test (hasNotice x (l .notices))
+        (λ h. rw (idle-is (process-of c x g), h) (ap Number (times-at c (l .notices) a spt x (process-of c x g))))
+        (λ h. rw (idle-is (process-of c x g), h)))
 
-    pub nextev-means : asked c (λ k. nextevTold c x (sqsOf k)) t ≡ nextevOf x (l .notices)
+    pub nextev-means : asked c (λ k. nextevTold c x (sqsOf k)) t ≡ toldIf (isProcess c x) (nextevOf x (l .notices))
     unfolding nextevTold
     nextev-means =
         asked-is c l t w s (λ k. nextevTold c x (sqsOf k))
-        ∙ told-is (isProcess c x) _ _ g
-        (test (hasNotice x (l .notices))
+        ∙ told-by (isProcess c x) _ _ (λ g.
+        test (hasNotice x (l .notices))
         (λ h.
         let i : In x (whos (l .notices)) = has-in x (l .notices) h in
         let at : sucs (half c) (t .axis) (x - c .heads) ≡ getD (t .axis) (x - c .heads) 0 =
         getD-take (half c) (t .axis) (x - c .heads) 0 (member c (l .notices) a spt (x - c .heads) (who-place c (l .notices) x i) .within) in
-        rw (idle-is, h)
+        rw (idle-is (process-of c x g), h)
         (subst (λ (v : ℕ). (if eqb v (half c - 1) then Linkage 0 else Linkage (linkageAt c v)) ≡ Linkage (nextAfter x (l .notices))) at
         (next-chain (sucs (half c) (t .axis)) (pres (half c) (t .axis)) c (half c - 1) (l .notices) (half c - 1) x (chain c (l .notices) a spt)
         (off-head c (l .notices) a spt) (λ y m. is-process c (l .notices) a spt y m .over) i)))
-        (λ h. rw (idle-is, h)))
+        (λ h. rw (idle-is (process-of c x g), h)))

@@ -20,7 +20,8 @@ use Rattle.sequencing.specs.PlacedLaws.{not-none, others-y}
 use Rattle.sequencing.specs.AgreeEnds.{has-none}
 use Rattle.sequencing.specs.StepPromise.{clause-in}
 use Rattle.sequencing.specs.PutLaws.{behind-first, front-first}
-use Rattle.sequencing.specs.Plain.{Result, done, need, upTo, leaving, dueFor, placed, noEffect, timedNeed, named, replaced, timed}
+use Rattle.sequencing.specs.Plain.{upTo, leaving, dueFor, placed, noEffect, timedNeed, named, replaced, timed}
+use Rattle.model.specs.Result.{need, done, Result}
 
 -- activate and reactivate in the tables' order
 unfoldable pub timedDropFirst : Counts → Bool → ℕ → ℕ → ℕ → ℤ → Lists → Result Lists

@@ -2,6 +2,7 @@
 pub mod Sets
 pub mod Procedures
 pub mod Calls
+pub mod Plain
 pub mod Moves
 pub mod Promise
 pub mod EachSet
