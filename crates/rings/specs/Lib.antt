@@ -1,6 +1,7 @@
 -- Rings in a lent table: plain lists, chains, the published statements, and what a table spells.
 pub mod Lists
 pub mod Distinct
+pub mod Members
 pub mod Tabulate
 pub mod Chain
 pub mod Unique

@@ -2,10 +2,11 @@
 use Prim.Native.Nat.{ℕ, _-_, _<_}
 use mathlib.Core.Path.{_≡_, refl, sym, _∙_}
 use mathlib.Core.Bool.{true}
-use mathlib.Core.List.{List, [], _∷_}
+use mathlib.Core.List.{List, [], _∷_, List·Nodup}
 use lib.ListN.{length}
 use Rattle.rings.specs.Lists.{In}
-use Rattle.rings.specs.Distinct.{Dist, joined}
+use Rattle.rings.specs.Distinct.{joined}
+use Rattle.rings.specs.Members.{dist-nodup}
 use Rattle.model.specs.Notices.{whos}
 use Rattle.model.specs.Only.{tables-only}
 use Rattle.model.specs.declared.verdict.Verdict.the-variants.{Fine}
@@ -96,8 +97,8 @@ pub which-first : (bytes : List ℕ) → accepted bytes ≡ true → (n a b : �
 which-first bytes ok n a b i j l = let w = machine-laws bytes ok n in record { tie = w .ties .tie a b i j l; goes-first = w .goes-first }
 
 -- Can a crate stand in two queues and be counted twice? No link stands twice in the sets, all sets together, after any number of steps
-pub stands-once : (bytes : List ℕ) → accepted bytes ≡ true → (n : ℕ) → Dist (joined (state (sheetOf bytes) n .lists .sets))
-stands-once bytes ok n = machine-laws bytes ok n .kept .links-once
+pub stands-once : (bytes : List ℕ) → accepted bytes ≡ true → (n : ℕ) → List·Nodup (joined (state (sheetOf bytes) n .lists .sets))
+stands-once bytes ok n = dist-nodup (joined (state (sheetOf bytes) n .lists .sets)) (machine-laws bytes ok n .kept .links-once)
 
 -- and tables that spell a machine are the only ones: two runs that are one machine's have the same words
 pub one-model : (bytes : List ℕ) (m : Machine) (u v : RunTables) → Stands (countsOf bytes) (recordsOf bytes) m u → Stands (countsOf bytes) (recordsOf bytes) m v
