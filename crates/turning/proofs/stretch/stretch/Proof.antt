@@ -9,8 +9,8 @@ use Rattle.runs.specs.StepIs.{stayed, to-next, jumps-to}
 use Rattle.runs.specs.Stretching.{Stretching, stretching-start, its-call, in-table, lengths, its-number, most-bytes, its-line, stopped, stays, stands-on, next-kept, moves, fills, waits}
 use borrow.Author.Needs.{needs}
 use native.Mathlib.Omega.{arith}
-use Rattle.runner.proofs.stretch.stretch.Statement.{statement}
-use Rattle.runner.proofs.stretch.stretch.Tie as tie
+use Rattle.turning.proofs.stretch.stretch.Statement.{statement}
+use Rattle.turning.proofs.stretch.stretch.Tie as tie
 
 abbrev Inv-loop : tie.InvT-loop
 Inv-loop c sheet links₀ axis₀ times₀ marks positions₀ accums₀ trace₀ lines end at₀ f₀ time₀ r₀ links axis times positions accums trace at f time r =

@@ -2,8 +2,8 @@ use Rattle.runs.specs.Filling.{Starting, starting, start-inside, starting-turn,
 use Prim.Native.Nat.{_-_}
 use borrow.Author.Needs.{needs}
 use native.Mathlib.Omega.{arith}
-use Rattle.runner.proofs.fresh.fill_starts.Statement.{statement}
-use Rattle.runner.proofs.fresh.fill_starts.Tie as tie
+use Rattle.filling.proofs.fill_starts.Statement.{statement}
+use Rattle.filling.proofs.fill_starts.Tie as tie
 
 abbrev Inv-loop : tie.InvT-loop
 Inv-loop sheet processes positions₀ n p₀ positions p = Starting sheet n positions p

@@ -11,8 +11,8 @@ use Rattle.runs.specs.Paused.{isFull, isDue}
 use Rattle.runs.specs.Between.{paused-on, paused-off, few-lines, due-on, due-room, due-call, due-apart, due-ends, apart-down, apart-on}
 use borrow.Author.Needs.{needs}
 use native.Mathlib.Omega.{arith}
-use Rattle.runner.proofs.turns.turns.Statement.{statement}
-use Rattle.runner.proofs.turns.turns.Tie as tie
+use Rattle.turning.proofs.turns.turns.Statement.{statement}
+use Rattle.turning.proofs.turns.turns.Tie as tie
 
 abbrev Inv-loop : tie.InvT-loop
 Inv-loop c sheet links₀ axis₀ times₀ marks₀ positions₀ accums₀ trace₀ room n₀ links axis times marks positions accums trace n =

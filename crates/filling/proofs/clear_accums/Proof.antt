@@ -4,8 +4,8 @@ use lib.ListN.{length}
 use mathlib.Core.Path.{refl}
 use borrow.Author.Needs.{needs}
 use native.Mathlib.Omega.{arith}
-use Rattle.runner.proofs.fresh.clear_accums.Statement.{statement}
-use Rattle.runner.proofs.fresh.clear_accums.Tie as tie
+use Rattle.filling.proofs.clear_accums.Statement.{statement}
+use Rattle.filling.proofs.clear_accums.Tie as tie
 
 abbrev Inv-loop : tie.InvT-loop
 Inv-loop accums₀ i₀ accums i = Cleared accums₀ accums i

@@ -1,7 +1,7 @@
 use Rattle.runs.specs.Starting.{filled-standing, started-is}
 use borrow.Author.Needs.{needs}
-use Rattle.runner.proofs.start.Statement.{statement}
-use Rattle.runner.proofs.start.Tie as tie
+use Rattle.host.proofs.start.start.Statement.{statement}
+use Rattle.host.proofs.start.start.Tie as tie
 
 fill-requires : tie.Need-fill-requires
 fill-requires c κs = (c .before .before .before .before .before .before .before .before .before .before .before .before .before .pre .ok)

@@ -28,7 +28,7 @@ fn count(n: usize) -> u32
     n as u32
 }
 
-pub(crate) fn turns(
+pub fn turns(
     c: Counts,
     sheet: &[u8],
     links: &mut [u32],

@@ -1,8 +1,8 @@
 use Rattle.runs.specs.Filling.{at}
 use Rattle.runs.specs.Filling.{fill-positions, fill-words, starts-inside, fill-model, fill-all}
 use borrow.Author.Needs.{needs}
-use Rattle.runner.proofs.fresh.fill.Statement.{statement}
-use Rattle.runner.proofs.fresh.fill.Tie as tie
+use Rattle.filling.proofs.fill.Statement.{statement}
+use Rattle.filling.proofs.fill.Tie as tie
 
 wide-requires : tie.Need-wide-requires
 wide-requires c κs = search needs
