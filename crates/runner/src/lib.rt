@@ -1,7 +1,8 @@
 // The runner of model sheets: a run goes on from its lent tables, turn by turn, and writes a line for each accepted step.
 pub mod answer;
 pub mod fresh;
-pub mod judge;
+mod judge;
+mod positions;
 
 use crate::judge::judge_run;
 use counts::Refusal;

@@ -1,7 +1,7 @@
-use Rattle.tables.proofs.Verdicts.{positions-length, positions-not, positions-fine}
+use Rattle.runner.proofs.Judging.{positions-length, positions-not, positions-fine}
 use borrow.Author.Needs.{needs}
-use Rattle.tables.proofs.judge.judge_positions.Statement.{statement}
-use Rattle.tables.proofs.judge.judge_positions.Tie as tie
+use Rattle.runner.proofs.positions.judge_positions.Statement.{statement}
+use Rattle.runner.proofs.positions.judge_positions.Tie as tie
 
 wide-requires : tie.Need-wide-requires
 wide-requires c κs = search needs

@@ -1,7 +1,7 @@
-use Rattle.tables.proofs.Standing.{Stands, stands-start, stands-past, stands-turn, stands-out}
+use Rattle.runner.proofs.Judging.{Stands, stands-start, stands-past, stands-turn, stands-out}
 use borrow.Author.Needs.{needs}
-use Rattle.tables.proofs.judge.positions_fine.Statement.{statement}
-use Rattle.tables.proofs.judge.positions_fine.Tie as tie
+use Rattle.runner.proofs.positions.positions_fine.Statement.{statement}
+use Rattle.runner.proofs.positions.positions_fine.Tie as tie
 
 abbrev Inv-loop : tie.InvT-loop
 Inv-loop positions p records i₀ i = Stands records positions p i
