@@ -7,7 +7,7 @@ use mathlib.Core.Bool.{Bool, true, false}
 use mathlib.Core.List.{List}
 use lib.IntN.{ℤ}
 use lib.ListN.{length}
-use Rattle.rings.specs.Lists.{if_then_else_, test, clash}
+use Rattle.rings.specs.Lists.{if_then_else_, clash}
 use Rattle.counts.specs.declared.Counts.{Counts}
 use Rattle.counts.specs.declared.Refusal.{Refusal}
 use Rattle.counts.specs.declared.Refusal.the-variants.{Size, Operand}
@@ -23,9 +23,9 @@ use Rattle.accumulator.specs.declared.Accumulator.{Accumulator}
 use Rattle.accumulator.specs.declared.Updated.{Updated}
 use Rattle.accumulator.specs.declared.Updated.the-variants.{To, Refused}
 use Rattle.accumulator.specs.Update.{updatedOf}
-use Rattle.accumulator.specs.Flat.{Changed, wordsAt, wordPlace, stored, updatedIn}
+use Rattle.accumulator.specs.Flat.{wordsAt, wordPlace, stored, updatedIn}
 use Rattle.accumulator.specs.Triples.{Listed, numbered, listAfter, updatedAt}
-use Rattle.accumulator.specs.Calls.{keptOf, accumOne, keeping, accumAlone, countFine, listFine, numberFine, numberJudged, listJudged, changing, accumListed, listing, accumAt}
+use Rattle.accumulator.specs.Calls.{keptOf, accumOne, keeping, accumAlone, countFine, listFine, numberFine, listJudged, changing, accumListed, listing, accumAt}
 
 -- ---- well-formed models
 

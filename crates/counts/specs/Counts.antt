@@ -10,6 +10,7 @@ use Rattle.counts.specs.declared.Counts.{Counts}
 use Rattle.counts.specs.declared.CountsMade.{CountsMade}
 use Rattle.counts.specs.declared.CountsMade.the-variants.{Made, Refused}
 use Rattle.counts.specs.declared.Refusal.the-variants.{Size}
+use Rattle.counts.specs.Refusals.{refusalNumber}
 
 -- "at most 64 heads, 1 to 1,024 processes and at most 3,008 plain links"
 unfoldable pub inLimits : Counts → Bool
@@ -18,6 +19,11 @@ inLimits c = leb (c .heads) 64 && (leb 1 (c .processes) && (leb (c .processes) 1
 -- the counts, or refusal 1
 unfoldable pub madeOf : Counts → CountsMade
 madeOf c = if inLimits c then Made c else Refused Size
+
+-- the papers' number of what the constructor answers; 0 is accepted
+abbrev pub madeCode : CountsMade → ℕ
+madeCode (Made c) = 0
+madeCode (Refused r) = refusalNumber r
 
 -- N = H + P + L
 abbrev pub total : Counts → ℕ
@@ -95,6 +101,11 @@ made-allowed c n e =
     test (inLimits c)
     (λ t. let q : Made c ≡ Made n = sym (rw t) ∙ e in (cc, limits-allowed c t))
     (λ t. let q : Refused Size ≡ Made n = sym (rw t) ∙ e in let z : false ≡ true = cc in clash z)
+
+-- the constructor's number is 0 exactly within the limits, else 1
+pub made-code : (c : Counts) → madeCode (madeOf c) ≡ (if inLimits c then 0 else 1)
+unfolding madeOf
+made-code c = test (inLimits c) (λ t. rw t) (λ t. rw t)
 
 -- the tests, one by one
 module _ (c : Counts) where

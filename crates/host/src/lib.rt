@@ -1,9 +1,11 @@
 // The edge for a C host: one function, with a fresh run's tables in local arrays.
+mod start;
+
+use crate::start::start;
 use counts::Refusal;
 use layout::check::check;
 use ring::wide;
 use runner::answer::number;
-use runner::start;
 use sheet::header::Checked;
 ghost use mathlib.Core.Path.{_≡_};
 ghost use Rattle.counts.specs.Refusals.{refusalNumber};

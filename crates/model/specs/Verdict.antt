@@ -1,6 +1,6 @@
 -- The verdict on counts and tables: fine, 1 or 2, each exactly where the papers say.
-use Prim.Native.Nat.{_+_, _*_}
-use mathlib.Core.Path.{_≡_, sym, _∙_}
+use Prim.Native.Nat.{ℕ, _+_, _*_}
+use mathlib.Core.Path.{_≡_, sym, ap, _∙_}
 use mathlib.Core.Logic.{_⊎_, inl, inr}
 use mathlib.Core.Bool.{Bool, true, false, not, _&&_}
 use lib.Dec.{eqb}
@@ -9,12 +9,18 @@ use borrow.Author.Tests.{eq-eqb, eqb-true, not-true, not-false}
 use Rattle.rings.specs.Lists.{test, clash}
 use Rattle.counts.specs.declared.Counts.{Counts}
 use Rattle.counts.specs.declared.Refusal.the-variants.{Size, Malformed}
+use Rattle.counts.specs.Refusals.{refusalNumber}
 use Rattle.model.specs.declared.verdict.Verdict.{Verdict}
 use Rattle.model.specs.declared.verdict.Verdict.the-variants.{Fine, Refused}
 use Rattle.counts.specs.Counts.{inLimits, total, both, and-on, limits-allowed, allowed-limits}
 use Rattle.model.specs.Tables.{Tables, Lengths, Sized, WellFormed}
 use Rattle.model.specs.Judge.{lengthsFine, tablesFine, judged}
 use Rattle.model.specs.Formed.{tables-sound, tables-complete}
+
+-- the papers' number of a verdict; 0 is accepted
+abbrev pub verdictCode : Verdict → ℕ
+verdictCode Fine = 0
+verdictCode (Refused r) = refusalNumber r
 
 -- ---- lengths
 
@@ -121,6 +127,21 @@ judged-says c t =
     (λ f. says-fine c t (judged c t) s (tables-sound c t (s .lengths) f) (judged-good c t e f))
     (λ f. says-two c t (judged c t) s (λ w. clash (sym f ∙ tables-complete c t w)) (judged-formed c t e f)))
     (λ e. says-one c t (judged c t) (λ s. clash (sym e ∙ mean-sized c t s)) (judged-size c t e))
+
+-- the judge's number: 0 for well-formed tables, 1 for a count or a length, 2 for other tables
+pub record Numbers (c : Counts) (t : Tables) (n : ℕ) : Type 0 where
+  pub zero : Sized c t → WellFormed c t → n ≡ 0
+  pub one : (Sized c t → ⊥) → n ≡ 1
+  pub two : Sized c t → (WellFormed c t → ⊥) → n ≡ 2
+
+pub judged-code : (c : Counts) (t : Tables) → Numbers c t (verdictCode (judged c t))
+judged-code c t =
+    let s = judged-says c t in
+    record {
+      zero = λ a w. ap verdictCode (s .fine a w);
+      one = λ n. ap verdictCode (s .one n);
+      two = λ a n. ap verdictCode (s .two a n);
+    }
 
 -- ---- the code's answers, from its tests
 

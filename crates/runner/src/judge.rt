@@ -1,19 +1,19 @@
 // Refusals 1 and 2 of a run: lengths first, then what the tables hold.
+use crate::positions::judge_positions;
 use counts::Counts;
 use counts::Refusal;
 use model::verdict::Verdict;
 use ring::wide;
-use tables::judge::judge_positions;
 use tables::judge::judge_tables;
 use tables::judge::lengths_fine;
 ghost use mathlib.Core.Path.{_≡_};
 ghost use Rattle.runs.specs.Run.{lent, runJudged};
 
 // 64 accumulators of three words.
-pub const WORDS: usize = 192;
+const WORDS: usize = 192;
 
 // The longest trace.
-pub const TRACE_LIMIT: usize = 65536;
+const TRACE_LIMIT: usize = 65536;
 
 pub(crate) fn judge_run(
     c: Counts,

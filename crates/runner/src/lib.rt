@@ -1,13 +1,10 @@
 // The runner of model sheets: a run goes on from its lent tables, turn by turn, and writes a line for each accepted step.
 pub mod answer;
 pub mod fresh;
-pub mod judge;
-pub mod stretch;
-pub mod turns;
+mod judge;
+mod positions;
 
-use crate::fresh::fill;
 use crate::judge::judge_run;
-use crate::turns::turns;
 use counts::Refusal;
 use layout::check::check;
 use machine::End;
@@ -15,10 +12,10 @@ use model::verdict::Verdict;
 use runs::Ran;
 use sheet::header::Checked;
 use sheet::header::Header;
+use turning::turns::turns;
 ghost use mathlib.Core.Path.{_≡_};
 ghost use Rattle.sheet.specs.Accepted.{checked};
 ghost use Rattle.sheet.specs.declared.header.Checked.the-variants.{Accepted};
-ghost use Rattle.runs.specs.Starting.{Startable, startedOn};
 ghost use Rattle.runs.specs.Run.{lent, refusedRan, checkedRun, runOn};
 
 fn refused(q: Refusal) -> Ran
@@ -104,35 +101,4 @@ pub fn run(
             trace,
         ),
     }
-}
-
-// A fresh run of a sheet that was accepted, on tables of its lengths, whatever they hold. A core function: nothing is judged again.
-pub fn start(
-    header: Header,
-    sheet: &[u8],
-    links: &mut [u32],
-    axis: &mut [u32],
-    times: &mut [u64],
-    marks: &mut [u8],
-    positions: &mut [u32],
-    accums: &mut [i64],
-    trace: &mut [u8],
-) -> Ran
-    requires { ⌜ Startable header (now sheet) (lent (now links) (now axis) (now times) (now marks) (now positions) (now accums)) (now trace) ⌝ }
-    ensures { λ r. ⌜ record { run = lent (now (links .exit)) (now (axis .exit)) (now (times .exit)) (now (marks .exit)) (now (positions .exit)) (now (accums .exit)); trace = now (trace .exit); result = r }
-        ≡ startedOn (header .counts) (now (sheet .entry)) (now (trace .entry)) ⌝ }
-{
-    fill(header, sheet, links, axis, times, marks, positions, accums);
-    let c = header.counts;
-    turns(
-        c,
-        sheet,
-        links,
-        axis,
-        times,
-        marks,
-        positions,
-        accums,
-        trace,
-    )
 }

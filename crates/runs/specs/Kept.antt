@@ -1,13 +1,13 @@
 -- A refused run call that wrote no line changes no word, whatever the tables: turned down by 8, 1 or 2, or stopped by its first step. And a
 -- refused step keeps every word, whatever the tables.
-use Prim.Native.Nat.{ℕ, zero, suc, _+_, _*_, _/_, _≤_}
-use mathlib.Core.Path.{_≡_, refl, ap, _∙_, sym}
-use mathlib.Core.Bool.{Bool, true, false}
+use Prim.Native.Nat.{ℕ, zero, suc, _*_, _/_, _≤_}
+use mathlib.Core.Path.{_≡_, refl, ap}
+use mathlib.Core.Bool.{true, false}
 use mathlib.Core.List.{List}
 use native.Mathlib.Omega.{arith}
 use lib.IntN.{ℤ}
 use lib.ListN.{length}
-use Rattle.rings.specs.Lists.{if_then_else_, test, clash}
+use Rattle.rings.specs.Lists.{test, clash}
 use Rattle.counts.specs.declared.Counts.{Counts}
 use Rattle.counts.specs.declared.Refusal.{Refusal}
 use Rattle.model.specs.declared.answer.Answer.{Answer}
@@ -28,6 +28,7 @@ use Rattle.sheet.specs.declared.header.Checked.the-variants.{Accepted, Refused 
 use Rattle.sheet.specs.Accepted.{checked}
 use Rattle.machine.specs.declared.End.the-variants.{Refused}
 use Rattle.machine.specs.Calls.{ListCall, onSet, hold, passivate, wait, cancel, activate, ifEmpty, finish, Call, onList, accum}
+use Rattle.runs.specs.Fresh.{sizesFine, filledFor, filled}
 use Rattle.runs.specs.OnTables.{tablesAfter, Carried, carriedOut}
 use Rattle.runs.specs.Run.{RunTables, runJudged, callDue, Turned, On, Off, turnedOf, Stepped, moved, dueIn, lineIn, stepOn, endsNow, RanOn, stoppedOn, turnsOn, judgedRun, checkedRun, runOn}
 
@@ -137,3 +138,12 @@ run-kept bytes u tr r = by-sheet (checked bytes)
         → (checkedRun k bytes u tr .run ≡ u) × (checkedRun k bytes u tr .trace ≡ tr)
     by-sheet (Accepted h) a b = by-tables (h .counts) (runJudged (h .counts) (h .records) u (length tr)) a b
     by-sheet (NotAccepted q) a b = (refl, refl)
+
+-- a fresh run that was refused
+pub filled-kept : (bytes : List ℕ) (u : RunTables) (r : Refusal) → filled bytes u .answer ≡ Judged r → filled bytes u .run ≡ u
+unfolding filled
+filled-kept bytes u r = by-sheet (checked bytes)
+  where
+    by-sheet : (k : Checked) → filledFor k bytes u .answer ≡ Judged r → filledFor k bytes u .run ≡ u
+    by-sheet (Accepted h) = test (sizesFine (h .counts) u) (λ e. rw e (λ q. let z : false ≡ true = cc in clash z)) (λ e. rw e (λ q. refl))
+    by-sheet (NotAccepted p) = λ q. refl

@@ -25,9 +25,9 @@ pub mod Stretching
 pub mod Between
 pub mod Judging
 pub mod RunIs
-pub mod Kept
 pub mod CallFollows
 pub mod Fresh
+pub mod Kept
 pub mod Filling
 pub mod Starting
 pub mod Parts

@@ -9,6 +9,7 @@ use Rattle.rings.specs.Lists.{if_then_else_}
 use Rattle.counts.specs.Counts.{inLimits, total, isHead}
 use Rattle.counts.specs.declared.Counts.{Counts}
 use Rattle.counts.specs.declared.Refusal.the-variants.{Layout}
+use Rattle.counts.specs.Refusals.{refusalNumber}
 use Rattle.sheet.specs.AllTo.{allTo}
 use Rattle.words.specs.Words.{u8At}
 use Rattle.sheet.specs.Sheet.{countsOf, recordsOf, startAt, recordOffset, recordFrom}
@@ -104,3 +105,8 @@ answer b h = if b then Accepted h else Refused Layout
 -- 8: "sheet breaks its layout, limits included"
 unfoldable pub checked : List ℕ → Checked
 checked s = answer (accepted s) (headerOf s)
+
+-- the papers' number of what the check answers; 0 is accepted
+abbrev pub checkedCode : Checked → ℕ
+checkedCode (Accepted h) = 0
+checkedCode (Refused r) = refusalNumber r

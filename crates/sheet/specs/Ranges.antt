@@ -10,10 +10,11 @@ use borrow.Author.Tests.{leb-true, eqb-true}
 use Rattle.counts.specs.Counts.{Allowed, inLimits, both, limits-allowed}
 use Rattle.counts.specs.declared.Refusal.{Refusal}
 use Rattle.counts.specs.declared.Refusal.the-variants.{Layout}
+use Rattle.rings.specs.Lists.{if_then_else_, test}
 use Rattle.rings.specs.Tabulate.{listed-at, length-listed}
 use Rattle.sheet.specs.AllTo.{all-at}
 use Rattle.sheet.specs.Sheet.{countsOf, recordsOf, startOffset, startAt, recordOffset, recordAt, sheetOf}
-use Rattle.sheet.specs.Accepted.{headerOf, lengthOf, sizeFine, sized, recordFine, padFine, startsTo, layoutFine, recordsTo, accepted, checked}
+use Rattle.sheet.specs.Accepted.{headerOf, lengthOf, sizeFine, sized, recordFine, padFine, startsTo, layoutFine, recordsTo, accepted, checked, checkedCode}
 use Rattle.sheet.specs.Checking.{answer-yes, answer-no}
 use Rattle.sheet.specs.Fields.{Ranged, ranged}
 use Rattle.sheet.specs.declared.header.Header.{Header}
@@ -30,6 +31,11 @@ module _ (s : List ℕ) where
   pub checked-no : (q : Refusal) → checked s ≡ Refused q → (accepted s ≡ false) × (q ≡ Layout)
   unfolding checked
   checked-no q e = answer-no (accepted s) (headerOf s) q (sym e)
+
+  -- the check's number is 0 exactly for an accepted sheet, else 8
+  pub checked-code : checkedCode (checked s) ≡ (if accepted s then 0 else 8)
+  unfolding checked
+  checked-code = test (accepted s) (λ t. rw t) (λ t. rw t)
 
   -- ---- the sheet as a value
 

@@ -9,7 +9,7 @@ ghost use Rattle.rings.specs.Table.{Sound, Made};
 ghost use Rattle.sets.specs.Procedures.{followed, preceded, cleared, linkOr};
 
 // Takes x out, then puts it behind y if y is on a ring.
-pub fn follow(t: &mut [u32], m: usize, x: u32, y: u32)
+pub(crate) fn follow(t: &mut [u32], m: usize, x: u32, y: u32)
     requires { ⌜ Sound m (now t) ⌝ }
     requires { ⌜ (x < m) × (y < m) ⌝ }
     ensures { λ _. ⌜ Made m (followed m x y (now (t .entry))) (now (t .exit)) ⌝ }
@@ -43,7 +43,7 @@ pub fn precede(t: &mut [u32], m: usize, x: u32, y: u32)
 }
 
 // Takes the first out until there is none.
-pub fn clear(t: &mut [u32], m: usize, h: usize)
+pub(crate) fn clear(t: &mut [u32], m: usize, h: usize)
     requires { ⌜ Sound m (now t) ⌝ }
     requires { ⌜ h < m ⌝ }
     ensures { λ _. ⌜ Made m (cleared m h (now (t .entry))) (now (t .exit)) ⌝ }

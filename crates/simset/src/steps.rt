@@ -13,7 +13,7 @@ ghost use Rattle.sets.specs.Calls.{orNone, outStep, followStep, precedeStep, in
 ghost use Rattle.sets.specs.Promise.{Moved};
 
 // A linkage, or none.
-pub fn linkage_or_none(c: Counts, y: u32) -> bool
+fn linkage_or_none(c: Counts, y: u32) -> bool
     ensures { λ r. ⌜ r ≡ orNone (isLinkage c y) y ⌝ }
 {
     if y == 0 {

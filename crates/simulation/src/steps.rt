@@ -23,7 +23,7 @@ ghost use Rattle.sequencing.specs.StepPromise.{FinishMade, WaitMade};
 ghost use Rattle.model.specs.Now.{half};
 
 // A process, or none.
-pub fn process_or_none(c: Counts, x: u32) -> bool
+pub(crate) fn process_or_none(c: Counts, x: u32) -> bool
     ensures { λ r. ⌜ r ≡ orNone (isProcess c x) x ⌝ }
 {
     if x == 0 {
@@ -74,7 +74,7 @@ pub fn cancel(c: Counts, axis: &mut [u32], times: &mut [u64], x: u32) -> Answer
 }
 
 // The clause and the parties it uses are of their kinds.
-pub fn parties_fine(c: Counts, clause: u32, x: u32, y: u32) -> bool
+fn parties_fine(c: Counts, clause: u32, x: u32, y: u32) -> bool
     ensures { λ r. ⌜ r ≡ timedNeed c clause x y ⌝ }
 {
     if 6 < clause {

@@ -1,5 +1,4 @@
 -- laws that the code's proofs cite
-pub mod Standing
 pub mod AxisCode
 pub mod Verdicts
 pub mod Filling

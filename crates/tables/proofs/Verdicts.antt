@@ -3,28 +3,13 @@ use Prim.Native.Nat.{ℕ, _+_, _*_}
 use mathlib.Core.Path.{_≡_, sym, ap, _∙_}
 use mathlib.Core.Logic.{_≢_}
 use mathlib.Core.Bool.{Bool, true, false, not}
-use mathlib.Core.List.{List}
 use lib.Dec.{eqb}
 use lib.ListN.{length}
 use borrow.Author.Tests.{eq-eqb, ne-eqb, not-true, not-false}
 use Rattle.counts.specs.declared.Counts.{Counts}
-use Rattle.counts.specs.declared.Refusal.the-variants.{Size, Malformed}
-use Rattle.model.specs.declared.verdict.Verdict.the-variants.{Fine, Refused}
 use Rattle.counts.specs.Counts.{total, and-off, and-on}
 use Rattle.model.specs.Tables.{Tables}
-use Rattle.model.specs.Judge.{linksFine, axisFine, tablesFine, lengthsFine, positionsFine, positionsJudged}
-use Rattle.model.specs.Positions.{judged-length, judged-not, judged-fine}
-
-module _ (c : Counts) (R : ℕ) (positions : List ℕ) (p : ℕ) (e : p ≡ c .processes) where
-  pub positions-length : length positions ≢ p + 1 → Refused Size ≡ positionsJudged c R positions
-  positions-length n = sym (judged-length c R positions (rw e at n))
-
-  module _ (l : length positions ≡ p + 1) (ok : Bool) (f : ok ≡ positionsFine R positions p) where
-    pub positions-not : not ok ≡ true → Refused Malformed ≡ positionsJudged c R positions
-    positions-not n = sym (judged-not c R positions (rw e at l) (sym (rw e at f) ∙ not-true ok n))
-
-    pub positions-fine : not ok ≡ false → Fine ≡ positionsJudged c R positions
-    positions-fine n = sym (judged-fine c R positions (rw e at l) (sym (rw e at f) ∙ not-false ok n))
+use Rattle.model.specs.Judge.{linksFine, axisFine, tablesFine, lengthsFine}
 
 -- ---- lengths
 

@@ -11,7 +11,7 @@ ghost use Prim.Native.Nat.{_+_, _*_, _<_, _≤_};
 ghost use lib.ListN.{length};
 ghost use Rattle.rings.specs.Stores.{sucs, pres};
 ghost use Rattle.model.specs.Tables.{Sized};
-ghost use Rattle.model.specs.Judge.{linksFine, timeFine, markFine, placesFine, axisFine, tablesFine, lengthsFine, judged, positionsFine, positionsJudged};
+ghost use Rattle.model.specs.Judge.{linksFine, timeFine, markFine, placesFine, axisFine, tablesFine, lengthsFine, judged};
 ghost use Rattle.model.specs.Tests.{Three};
 
 // The table of links: the sets of the heads 1 .. heads.
@@ -147,36 +147,6 @@ pub fn judge_tables(c: Counts, links: &[u32], axis: &[u32], times: &[u64], marks
     }
     let formed = tables_fine(c, links, axis, times, marks);
     if !formed {
-        return Verdict::Refused(Refusal::Malformed);
-    }
-    Verdict::Fine
-}
-
-// The positions of p processes in a sheet of `records` records.
-fn positions_fine(positions: &[u32], p: usize, records: u32) -> bool
-    requires { ⌜ length (now positions) ≡ p + 1 ⌝ }
-    ensures { λ r. ⌜ r ≡ positionsFine records (now (positions .entry)) p ⌝ }
-{
-    let mut i = p;
-    while 0 < i {
-        if records < positions[i] {
-            return false;
-        }
-        i -= 1;
-    }
-    positions[0] == 0
-}
-
-// Refusals 1 and 2 of a run's positions.
-pub fn judge_positions(c: Counts, records: u32, positions: &[u32]) -> Verdict
-    ensures { λ r. ⌜ r ≡ positionsJudged c records (now (positions .entry)) ⌝ }
-{
-    let p = wide(c.processes);
-    if positions.len() != p + 1 {
-        return Verdict::Refused(Refusal::Size);
-    }
-    let ok = positions_fine(positions, p, records);
-    if !ok {
         return Verdict::Refused(Refusal::Malformed);
     }
     Verdict::Fine

@@ -6,7 +6,7 @@ ghost use lib.ListN.{length};
 ghost use Rattle.trace.specs.Lines.{put, bytes4, bytes8, lineBytes};
 
 // The four bytes of x at i, the lowest first.
-pub fn put_u32(s: &mut [u8], i: usize, x: u32)
+fn put_u32(s: &mut [u8], i: usize, x: u32)
     requires { ⌜ i + 4 ≤ length (now s) ⌝ }
     ensures { λ _. ⌜ now (s .exit) ≡ put (now (s .entry)) i (bytes4 x) ⌝ }
 {
@@ -17,7 +17,7 @@ pub fn put_u32(s: &mut [u8], i: usize, x: u32)
 }
 
 // The eight bytes of x at i, the lowest first.
-pub fn put_u64(s: &mut [u8], i: usize, x: u64)
+fn put_u64(s: &mut [u8], i: usize, x: u64)
     requires { ⌜ i + 8 ≤ length (now s) ⌝ }
     ensures { λ _. ⌜ now (s .exit) ≡ put (now (s .entry)) i (bytes8 x) ⌝ }
 {

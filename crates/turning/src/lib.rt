@@ -1,0 +1,3 @@
+// The turns of a run on judged tables: stretches of turns, and turns whose call is made apart.
+mod stretch;
+pub mod turns;
