@@ -4,7 +4,7 @@ use mathlib.Core.Path.{_≡_, refl, sym, ap, _∙_}
 use mathlib.Core.Logic.{_⊎_, inl, inr}
 use mathlib.Core.List.{List}
 use native.Mathlib.Omega.{arith}
-use lib.ListN.{length, getD, set, length-set}
+use lib.ListN.{getD, set}
 use lib.Seq.{getD-set-other}
 use lib.IntN.{ℤ, pos}
 use Rattle.counts.specs.declared.Refusal.{Refusal}
@@ -56,10 +56,6 @@ module _ (k t : ℕ) (d : ℤ) (l : List ℤ) (i : ℕ) (at : i ≡ wordPlace k)
 
 -- ---- no other word is touched
 
-pub with-length : (i : ℕ) (v : Accumulator) (l : List ℤ) → length (withWords i v l) ≡ length l
-unfolding withWords
-with-length i v l = simp length-set
-
 pub with-other : (i j : ℕ) (v : Accumulator) (l : List ℤ) → (j < i ⊎ i + 2 < j) → getD (withWords i v l) j (pos 0) ≡ getD l j (pos 0)
 unfolding withWords
 with-other i j v l o =
@@ -71,15 +67,7 @@ with-other i j v l o =
     apart n (inl h) e f g = omega arith
     apart n (inr h) e f g = omega arith
 
--- whatever an update does, the list keeps its length, and the words of other accumulators stay as they are
-pub in-length : (k t : ℕ) (d : ℤ) (l : List ℤ) → length (updatedIn k t d l .words) ≡ length l
-unfolding updatedIn
-in-length k t d l = go (updatedOf (wordsAt (wordPlace k) l) t d)
-  where
-    go : (u : Updated) → length (stored u (wordPlace k) l .words) ≡ length l
-    go (To v) = with-length (wordPlace k) v l
-    go (Refused q) = refl
-
+-- whatever an update does, the words of other accumulators stay as they are
 pub in-other : (k t : ℕ) (d : ℤ) (l : List ℤ) (j : ℕ) → (j < wordPlace k ⊎ wordPlace k + 2 < j) → getD (updatedIn k t d l .words) j (pos 0) ≡ getD l j (pos 0)
 unfolding updatedIn
 in-other k t d l j o = go (updatedOf (wordsAt (wordPlace k) l) t d)

@@ -2,7 +2,7 @@
 use ring::wide;
 ghost use mathlib.Core.Path.{_≡_};
 ghost use Rattle.counts.specs.Refusals.{refusalNumber};
-ghost use Rattle.counts.specs.Counts.{madeOf, inLimits, total, main, isHead, isProcess, isLink, isLinkage, placeOf, linkageAt};
+ghost use Rattle.counts.specs.Counts.{madeOf, inLimits, total, main, isHead, isProcess, isLink, isLinkage, placeOf};
 
 // Why a call is turned down.
 pub enum Refusal {
@@ -154,12 +154,5 @@ impl Counts {
             return 0;
         }
         i - self.heads
-    }
-
-    // The number of the process at a place of the axis.
-    pub fn linkage_at(self, place: u32) -> usize
-        ensures { λ r. ⌜ r ≡ linkageAt self place ⌝ }
-    {
-        wide(self.heads) + wide(place)
     }
 }
