@@ -1,2 +1,3 @@
 -- steps that the walks by hand share
 pub mod Walking
+pub mod Locals

@@ -37,25 +37,26 @@ mach-answer w = EL.val An.the-type An′.the-laws w
 
 -- ---- the tokens of the four tables' lifetimes, and that of what is lent to be changed
 
-module _ {M : Type 1} (𝓤 : URA M) (κ₀ κ₁ κ₂ κ₃ κ₄ : Lft) (q₀ q₁ q₂ q₃ q₄ : Share) where
+module _ {M : Type 1} (𝓤 : URA M) (κ₀ κ₁ κ₂ κ₃ : Lft) (q₀ q₁ q₂ q₃ : Share) where
   abbrev pub four : Item 𝓤
   four = ‵ (flft κ₀ q₀) ⊛ (‵ (flft κ₁ q₁) ⊛ (‵ (flft κ₂ q₂) ⊛ (‵ (flft κ₃ q₃) ⊛ ‵ ftrue)))
 
-  abbrev pub five : Item 𝓤
-  five = ‵ (flft κ₀ q₀) ⊛ (‵ (flft κ₁ q₁) ⊛ (‵ (flft κ₂ q₂) ⊛ (‵ (flft κ₃ q₃) ⊛ (‵ (flft κ₄ q₄) ⊛ ‵ ftrue))))
+  module _ (κ₄ : Lft) (q₄ : Share) where
+    abbrev pub five : Item 𝓤
+    five = ‵ (flft κ₀ q₀) ⊛ (‵ (flft κ₁ q₁) ⊛ (‵ (flft κ₂ q₂) ⊛ (‵ (flft κ₃ q₃) ⊛ (‵ (flft κ₄ q₄) ⊛ ‵ ftrue))))
 
-  module _ (H : Heap 𝓤) (A : Atoms 𝓤) (W : Given 𝓤 H A) where
-    pub tokens-out : ent 𝓤 (⋆ 𝓤 H A (five ∷ [])) (⋆ 𝓤 H A (four ∷ ‵ (flft κ₄ q₄) ∷ []))
-    tokens-out =
-        qed W (five ∷ []) ∵ split ! $ move ! (1 ∷ []) $ split ! $ move ! (1 ∷ []) $ split ! $ move ! (1 ∷ []) $ split ! $ move ! (1 ∷ []) $ split ! $
-        -- [κ₄; true; κ₃; κ₂; κ₁; κ₀]
-        move ! (2 ∷ 1 ∷ []) $ join ! $ move ! (2 ∷ 0 ∷ []) $ join ! $ move ! (2 ∷ 0 ∷ []) $ join ! $ move ! (2 ∷ 0 ∷ []) $ join ! $ done !
+    module _ (H : Heap 𝓤) (A : Atoms 𝓤) (W : Given 𝓤 H A) where
+      pub tokens-out : ent 𝓤 (⋆ 𝓤 H A (five ∷ [])) (⋆ 𝓤 H A (four ∷ ‵ (flft κ₄ q₄) ∷ []))
+      tokens-out =
+          qed W (five ∷ []) ∵ split ! $ move ! (1 ∷ []) $ split ! $ move ! (1 ∷ []) $ split ! $ move ! (1 ∷ []) $ split ! $ move ! (1 ∷ []) $ split ! $
+          -- [κ₄; true; κ₃; κ₂; κ₁; κ₀]
+          move ! (2 ∷ 1 ∷ []) $ join ! $ move ! (2 ∷ 0 ∷ []) $ join ! $ move ! (2 ∷ 0 ∷ []) $ join ! $ move ! (2 ∷ 0 ∷ []) $ join ! $ done !
 
-    pub tokens-in : ent 𝓤 (⋆ 𝓤 H A (four ∷ ‵ (flft κ₄ q₄) ∷ [])) (⋆ 𝓤 H A (five ∷ []))
-    tokens-in =
-        qed W (four ∷ ‵ (flft κ₄ q₄) ∷ []) ∵ split ! $ move ! (1 ∷ []) $ split ! $ move ! (1 ∷ []) $ split ! $ move ! (1 ∷ []) $ split ! $
-        -- [κ₃; true; κ₂; κ₁; κ₀; κ₄]
-        move ! (5 ∷ 1 ∷ []) $ join ! $ move ! (1 ∷ 0 ∷ []) $ join ! $ move ! (1 ∷ 0 ∷ []) $ join ! $ move ! (1 ∷ 0 ∷ []) $ join ! $ move ! (1 ∷ 0 ∷ []) $ join ! $ done !
+      pub tokens-in : ent 𝓤 (⋆ 𝓤 H A (four ∷ ‵ (flft κ₄ q₄) ∷ [])) (⋆ 𝓤 H A (five ∷ []))
+      tokens-in =
+          qed W (four ∷ ‵ (flft κ₄ q₄) ∷ []) ∵ split ! $ move ! (1 ∷ []) $ split ! $ move ! (1 ∷ []) $ split ! $ move ! (1 ∷ []) $ split ! $
+          -- [κ₃; true; κ₂; κ₁; κ₀; κ₄]
+          move ! (5 ∷ 1 ∷ []) $ join ! $ move ! (1 ∷ 0 ∷ []) $ join ! $ move ! (1 ∷ 0 ∷ []) $ join ! $ move ! (1 ∷ 0 ∷ []) $ join ! $ move ! (1 ∷ 0 ∷ []) $ join ! $ done !
 
 -- ---- `if c { a }`, and then the rest
 

@@ -118,10 +118,10 @@ module _ {M : Type 1} (𝓤 : URA M) (H : Heap 𝓤) (A : Atoms 𝓤) (W : Given
   qs = (q₀, (q₁, (q₂, (q₃, (q₄, tt)))))
 
   abbrev all-toks : Item 𝓤
-  all-toks = five 𝓤 κ₀ κ₁ κ₂ κ₃ κ₄ q₀ q₁ q₂ q₃ q₄
+  all-toks = five 𝓤 κ₀ κ₁ κ₂ κ₃ q₀ q₁ q₂ q₃ κ₄ q₄
 
   abbrev tables-toks : Item 𝓤
-  tables-toks = four 𝓤 κ₀ κ₁ κ₂ κ₃ κ₄ q₀ q₁ q₂ q₃ q₄
+  tables-toks = four 𝓤 κ₀ κ₁ κ₂ κ₃ q₀ q₁ q₂ q₃
 
   abbrev v₁ : Val
   v₁ = sliceVal (s₁ .ptr) (length (s₁ .now))
@@ -198,7 +198,7 @@ module _ {M : Type 1} (𝓤 : URA M) (H : Heap 𝓤) (A : Atoms 𝓤) (W : Given
   exits zs same w is e =
       qed W (‵ (fobs γ (codedHoleys T.the-row .code (heres T.the-row zs))) ∷ ‵ (fbor κ₄ (Held T.the-row (length zs) b o γ)) ∷ ‵ (flft κ₄ q₄) ∷ tables-toks ∷ []) ∵
       suffices ! _ (ends-at 𝓤 H A this.ended stayed (this.clauses 𝓤 H A at-mem run) W bound (mach-answer w) w (tt, (tt, (tt, (tt, (tt, (zs, (tt, (tt, tt)))))))) (tt, (tt, (tt, (tt, (tt, (same, (tt, (tt, tt))))))))) $
-      says ! e $ move ! (3 ∷ 2 ∷ []) $ use2 W all-toks (tokens-in 𝓤 κ₀ κ₁ κ₂ κ₃ κ₄ q₀ q₁ q₂ q₃ q₄ H A W) $ frame ! $
+      says ! e $ move ! (3 ∷ 2 ∷ []) $ use2 W all-toks (tokens-in 𝓤 κ₀ κ₁ κ₂ κ₃ q₀ q₁ q₂ q₃ κ₄ q₄ H A W) $ frame ! $
       fjoin ! $ pureI ! (at-slice T.the-row (record { ptr = (b, o); name = γ; now = zs }) (s ∷ [])) (tt, (tt, tt))
       (ap (λ (m : ℕ). sliceVal (b, o) m ∷ []) (sym same), subst (Room T.the-row) (sym same) room) $ fjoin ! $
       nothing ! $ nothing ! $ fjoin ! $ nothing ! $ fjoin ! $ move ! (1 ∷ 0 ∷ []) $ fjoin ! $
@@ -219,7 +219,7 @@ module _ {M : Type 1} (𝓤 : URA M) (H : Heap 𝓤) (A : Atoms 𝓤) (W : Given
         -- what is owned, one by one
         move ! (33 ∷ []) $ fsplit ! $ move ! (1 ∷ []) $ fsplit ! $ move ! (1 ∷ []) $ fsplit ! $ move ! (1 ∷ []) $ fsplit ! $ move ! (1 ∷ []) $ fsplit ! $ move ! (1 ∷ []) $ fsplit ! $ fsplit3 ! $ drop ! $ move ! (2 ∷ []) $ drop ! $
         -- [obs; the borrow; marks; times; axis; links; c; _15; …; _0; …; the tokens]
-        move ! (39 ∷ []) $ use1 W (tables-toks ⊛ ‵ (flft κ₄ q₄)) (tokens-out 𝓤 κ₀ κ₁ κ₂ κ₃ κ₄ q₀ q₁ q₂ q₃ q₄ H A W) $ split ! $
+        move ! (39 ∷ []) $ use1 W (tables-toks ⊛ ‵ (flft κ₄ q₄)) (tokens-out 𝓤 κ₀ κ₁ κ₂ κ₃ q₀ q₁ q₂ q₃ κ₄ q₄ H A W) $ split ! $
         -- [four tokens; the list's; obs; the borrow; marks; times; axis; links; c; _15; …; _0; …]
         assigns ! (of-opd ! (load ! (from ! (fld ! refl (stop !))) (look-in ! 27 (sub ! 1 refl (whole !))))) (from ! (stop !)) (init ! 17 refl (tt, record { fits = room .0 })) $
         nothing ! $ owned ! u32 (Is u32) (uint-makes 𝓤 H A W w32) k _ (refl, k-fits) $ fjoin ! $ owned ! usize (Is usize) (uint-makes 𝓤 H A W w64) (length ys) _ (refl, room .0) $ fjoin ! $

@@ -86,10 +86,10 @@ module _ {M : Type 1} (𝓤 : URA M) (H : Heap 𝓤) (A : Atoms 𝓤) (W : Given
   qs = (q₀, (q₁, (q₂, (q₃, (q₄, tt)))))
 
   abbrev all-toks : Item 𝓤
-  all-toks = five 𝓤 κ₀ κ₁ κ₂ κ₃ κ₄ q₀ q₁ q₂ q₃ q₄
+  all-toks = five 𝓤 κ₀ κ₁ κ₂ κ₃ q₀ q₁ q₂ q₃ κ₄ q₄
 
   abbrev tables-toks : Item 𝓤
-  tables-toks = four 𝓤 κ₀ κ₁ κ₂ κ₃ κ₄ q₀ q₁ q₂ q₃ q₄
+  tables-toks = four 𝓤 κ₀ κ₁ κ₂ κ₃ q₀ q₁ q₂ q₃
 
   abbrev v₁ : Val
   v₁ = sliceVal (s₁ .ptr) (length (s₁ .now))
@@ -158,7 +158,7 @@ module _ {M : Type 1} (𝓤 : URA M) (H : Heap 𝓤) (A : Atoms 𝓤) (W : Given
   exits r is e =
       qed W (‵ (fobs γ (T.the-row .coded .code (r .value))) ∷ ‵ (fbor κ₄ (Body (mem T.the-row) b o γ)) ∷ ‵ (flft κ₄ q₄) ∷ tables-toks ∷ []) ∵
       suffices ! _ (ends-at 𝓤 H A one.ended stayed (one.clauses 𝓤 H A at-mem run) W bound (mach-answer (r .answer)) (r .answer) (tt, (tt, (tt, (tt, (tt, (r .value, (tt, tt))))))) (tt, (tt, (tt, (tt, (tt, (tt, (tt, tt)))))))) $
-      says ! e $ move ! (3 ∷ 2 ∷ []) $ use2 W (all-toks) (tokens-in 𝓤 κ₀ κ₁ κ₂ κ₃ κ₄ q₀ q₁ q₂ q₃ q₄ H A W) $ frame ! $
+      says ! e $ move ! (3 ∷ 2 ∷ []) $ use2 W (all-toks) (tokens-in 𝓤 κ₀ κ₁ κ₂ κ₃ q₀ q₁ q₂ q₃ κ₄ q₄ H A W) $ frame ! $
       feqI ! (List Val) (vptr b o ∷ []) (vptr b o ∷ []) refl $ fjoin3 ! $ nothing ! $ nothing ! $ fjoin ! $ move ! (1 ∷ 0 ∷ []) $ fjoin ! $
       nothing ! $ fjoin ! $ nothing ! $ fjoin ! $ nothing ! $ fjoin ! $ nothing ! $ fjoin ! $ nothing ! $ fjoin ! $
       owned ! An.the-row (Is An.the-row) (EL.makes An.the-type An′.the-plain 𝓤 H A) (r .answer) _ is $ move ! (1 ∷ 0 ∷ []) $ done !
@@ -177,7 +177,7 @@ module _ {M : Type 1} (𝓤 : URA M) (H : Heap 𝓤) (A : Atoms 𝓤) (W : Given
         -- what is owned, one by one, and the borrow is opened
         move ! (21 ∷ []) $ fsplit ! $ move ! (1 ∷ []) $ fsplit ! $ move ! (1 ∷ []) $ fsplit ! $ move ! (1 ∷ []) $ fsplit ! $ move ! (1 ∷ []) $ fsplit ! $ move ! (1 ∷ []) $ fsplit ! $ fsplit3 ! $ drop ! $
         -- [obs; the borrow; d's; marks; times; axis; links; c; _9; …; _0; …; the tokens]
-        move ! (28 ∷ []) $ use1 W (tables-toks ⊛ ‵ (flft κ₄ q₄)) (tokens-out 𝓤 κ₀ κ₁ κ₂ κ₃ κ₄ q₀ q₁ q₂ q₃ q₄ H A W) $ split ! $ move ! (2 ∷ 3 ∷ 1 ∷ []) $
+        move ! (28 ∷ []) $ use1 W (tables-toks ⊛ ‵ (flft κ₄ q₄)) (tokens-out 𝓤 κ₀ κ₁ κ₂ κ₃ q₀ q₁ q₂ q₃ κ₄ q₄ H A W) $ split ! $ move ! (2 ∷ 3 ∷ 1 ∷ []) $
         opens ! tt T.the-row {h = h} b o (λ vs. spelt ! T.the-row (Is T.the-row) (shows 𝓤 H A T.the-row) (LL.vals T.the-type T′.the-laws) (LL.tells T.the-type T′.the-laws) fullShare h vs b o $
         move ! (1 ∷ []) $ peeks ! T.the-row (Is T.the-row) (shows 𝓤 H A T.the-row) h (mach h ∷ []) (λ g. move ! (1 ∷ 0 ∷ []) $
         -- [the struct's cell; what it owns; the open borrow; obs; auth; four tokens; d's; marks; times; axis; links; c; _9; …; _0; …]
