@@ -7,4 +7,5 @@ pub mod Triples
 pub mod Calls
 pub mod Promise
 pub mod Picks
+pub mod Gather
 pub mod Runs
