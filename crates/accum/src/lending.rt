@@ -33,13 +33,13 @@ pub fn accum_alone_lent(
 }
 
 // 64 accumulators after a call on the first of them, and the call's answer.
-pub struct Relisted {
-    pub list: [Accumulator; 64],
-    pub answer: Answer,
+struct Relisted {
+    list: [Accumulator; 64],
+    answer: Answer,
 }
 
 // Accum by d on number k of the first n of 64 accumulators, lent to the call.
-pub(crate) fn accum_at_first(
+fn accum_at_first(
     c: Counts,
     links: &[u32],
     axis: &[u32],

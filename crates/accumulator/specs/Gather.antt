@@ -7,7 +7,7 @@ use native.Mathlib.Omega.{arith}
 use borrow.Author.Tests.{leb-true, not-true, not-false}
 use lib.Dec.{eqb, leb}
 use lib.ListN.{length, getD, set, take, drop, length-set}
-use lib.Seq.{take-add, drop-cons, take-all, take-suc, take-suc-set, take-set-le, length-take-le, getD-set-same, getD-set-other}
+use lib.Seq.{take-add, drop-cons, take-all, take-suc, take-suc-set, take-set-le, getD-set-same, getD-set-other}
 use lib.IntN.{ℤ, pos}
 use Rattle.counts.specs.declared.Counts.{Counts}
 use Rattle.counts.specs.declared.Refusal.the-variants.{Size}

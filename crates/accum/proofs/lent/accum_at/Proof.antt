@@ -62,7 +62,7 @@ use Rattle.accumulator.specs.declared.Kept as kept-declared
 use Rattle.accumulator.specs.declared.Picked as picked-declared
 use Rattle.accumulator.proofs.Accumulator as T
 use Rattle.accumulator.proofs.Accumulator.Laws as T′
-use Rattle.accum.proofs.Walking.{mach, mach-counts, mach-answer, four, five, tokens-out, tokens-in, early, held, failed}
+use Rattle.accum.proofs.Walking.{mach, mach-counts, mach-answer, mach-slice, value-is, answer-is, four, five, tokens-out, tokens-in, early, held, failed}
 use Rattle.accumulator.proofs.Kept as U
 use Rattle.accumulator.proofs.Kept.Laws as U′
 use Rattle.accumulator.proofs.Picked as P
@@ -99,12 +99,6 @@ module _ {M : Type 1} (𝓤 : URA M) (H : Heap 𝓤) (A : Atoms 𝓤) (at-mem : 
   Step = tripleOf 𝓤 H A step.signature (step.spec 𝓤 H A at-mem run)
 
 -- what holding a struct tells of its fields
-value-is : (r : Kept) (vs : List Val) → Is U.the-row r vs → Is T.the-row (r .value) (mach (r .value) ∷ [])
-value-is r vs is = LL.owed U.the-type U′.the-laws r vs is .0
-
-answer-is : (r : Kept) (vs : List Val) → Is U.the-row r vs → Is An.the-row (r .answer) (mach-answer (r .answer) ∷ [])
-answer-is r vs is = LL.owed U.the-type U′.the-laws r vs is .1 .0
-
 refusal-is : (p : Picked) (vs : List Val) → Is P.the-row p vs → Is An.the-row (p .answer) (mach-answer (p .answer) ∷ [])
 refusal-is p vs is = LL.owed P.the-type P′.the-laws p vs is .1 .1 .1 .0
 
@@ -123,18 +117,6 @@ module _ {M : Type 1} (𝓤 : URA M) (H : Heap 𝓤) (A : Atoms 𝓤) (W : Given
   abbrev tables-toks : Item 𝓤
   tables-toks = four 𝓤 κ₀ κ₁ κ₂ κ₃ q₀ q₁ q₂ q₃
 
-  abbrev v₁ : Val
-  v₁ = sliceVal (s₁ .ptr) (length (s₁ .now))
-
-  abbrev v₂ : Val
-  v₂ = sliceVal (s₂ .ptr) (length (s₂ .now))
-
-  abbrev v₃ : Val
-  v₃ = sliceVal (s₃ .ptr) (length (s₃ .now))
-
-  abbrev v₄ : Val
-  v₄ = sliceVal (s₄ .ptr) (length (s₄ .now))
-
   -- the list
   abbrev s : Val
   s = sliceVal (b, o) (length ys)
@@ -152,7 +134,7 @@ module _ {M : Type 1} (𝓤 : URA M) (H : Heap 𝓤) (A : Atoms 𝓤) (W : Given
       qs,
       tt,
       (c, (s₁, (s₂, (s₃, (s₄, (record { ptr = (b, o); name = γ; now = ys }, (k, (d, tt)))))))),
-      (mach-counts c ∷ [], (v₁ ∷ [], (v₂ ∷ [], (v₃ ∷ [], (v₄ ∷ [], (s ∷ [], (vint w32 k ∷ [], (vd ∷ [], tt)))))))),
+      (mach-counts c ∷ [], (mach-slice s₁ ∷ [], (mach-slice s₂ ∷ [], (mach-slice s₃ ∷ [], (mach-slice s₄ ∷ [], (s ∷ [], (vint w32 k ∷ [], (vd ∷ [], tt)))))))),
     ),
     tt,
   )
@@ -168,7 +150,7 @@ module _ {M : Type 1} (𝓤 : URA M) (H : Heap 𝓤) (A : Atoms 𝓤) (W : Given
       (q₀, (q₁, (q₂, (q₃, tt)))),
       tt,
       (c, (s₁, (s₂, (s₃, (s₄, (length ys, (k, tt))))))),
-      (mach-counts c ∷ [], (v₁ ∷ [], (v₂ ∷ [], (v₃ ∷ [], (v₄ ∷ [], (vint w64 (length ys) ∷ [], (vint w32 k ∷ [], tt))))))),
+      (mach-counts c ∷ [], (mach-slice s₁ ∷ [], (mach-slice s₂ ∷ [], (mach-slice s₃ ∷ [], (mach-slice s₄ ∷ [], (vint w64 (length ys) ∷ [], (vint w32 k ∷ [], tt))))))),
     ),
     tt,
   )
@@ -206,15 +188,15 @@ module _ {M : Type 1} (𝓤 : URA M) (H : Heap 𝓤) (A : Atoms 𝓤) (W : Given
       owned ! An.the-row (Is An.the-row) (EL.makes An.the-type An′.the-plain 𝓤 H A) w _ is $ move ! (1 ∷ 0 ∷ []) $ done !
 
   module _ (C : Calls 𝓤 H) (Λ : Loops 𝓤 H) (fm : FmC 𝓤 H (W .laws) C) (known-pick : Triple 𝓤 (C #pick) (Picks 𝓤 H A at-mem run)) (known-step : Triple 𝓤 (C #step) (Step 𝓤 H A at-mem run)) where
-    walk : Is Co.the-row c (mach-counts c ∷ []) → Is (ShrSlice (named 0) κ₀ u32) s₁ (v₁ ∷ []) → Is (ShrSlice (named 1) κ₁ u32) s₂ (v₂ ∷ []) → Is (ShrSlice (named 2) κ₂ u64) s₃ (v₃ ∷ []) → Is (ShrSlice (named 3) κ₃ u8) s₄ (v₄ ∷ [])
-        → ent 𝓤 (onEntry 𝓤 H A this.signature κs qs (bound .0 .3) (bound .0 .4)) (WpFn 𝓤 H C Λ code.function (mach-counts c ∷ v₁ ∷ v₂ ∷ v₃ ∷ v₄ ∷ s ∷ vint w32 k ∷ vd ∷ []) Post)
+    walk : Is Co.the-row c (mach-counts c ∷ []) → Is (ShrSlice (named 0) κ₀ u32) s₁ (mach-slice s₁ ∷ []) → Is (ShrSlice (named 1) κ₁ u32) s₂ (mach-slice s₂ ∷ []) → Is (ShrSlice (named 2) κ₂ u64) s₃ (mach-slice s₃ ∷ []) → Is (ShrSlice (named 3) κ₃ u8) s₄ (mach-slice s₄ ∷ [])
+        → ent 𝓤 (onEntry 𝓤 H A this.signature κs qs (bound .0 .3) (bound .0 .4)) (WpFn 𝓤 H C Λ code.function (mach-counts c ∷ mach-slice s₁ ∷ mach-slice s₂ ∷ mach-slice s₃ ∷ mach-slice s₄ ∷ s ∷ vint w32 k ∷ vd ∷ []) Post)
     walk pc p₁ p₂ p₃ p₄ =
         qed W (all-toks ∷ ‵ (owns (Co.the-row ∷ ShrSlice (named 0) κ₀ u32 ∷ ShrSlice (named 1) κ₁ u32 ∷ ShrSlice (named 2) κ₂ u64 ∷ ShrSlice (named 3) κ₃ u8 ∷ MutSlice (named 4) κ₄ T.the-row ∷ u32 ∷ i64 ∷ []) (bound .0 .3) (bound .0 .4)) ∷ []) ∵
-        enter ! C Λ code.function (mach-counts c ∷ v₁ ∷ v₂ ∷ v₃ ∷ v₄ ∷ s ∷ vint w32 k ∷ vd ∷ []) _ $
+        enter ! C Λ code.function (mach-counts c ∷ mach-slice s₁ ∷ mach-slice s₂ ∷ mach-slice s₃ ∷ mach-slice s₄ ∷ s ∷ vint w32 k ∷ vd ∷ []) _ $
         alloc1 ! (λ l₀. alloc1 ! (λ l₁. alloc1 ! (λ l₂. alloc1 ! (λ l₃. alloc1 ! (λ l₄. alloc1 ! (λ l₅. alloc1 ! (λ l₆. alloc1 ! (λ l₇. alloc1 ! (λ l₈. alloc1 ! (λ l₉. alloc1 ! (λ l₁₀. alloc1 ! (λ l₁₁. alloc1 ! (λ l₁₂. alloc1 ! (λ l₁₃. alloc1 ! (λ l₁₄. alloc1 ! (λ l₁₅. alloc0 ! $ params1 ! $
         pass1 ! (init ! 28 refl (LL.lawful Co.the-type Co′.the-laws 𝓤 H A W .typed c _ pc .0)) $
-        pass1 ! (init ! 26 refl (shr-slice-lawful 𝓤 H A W (named 0) κ₀ u32 .typed s₁ (v₁ ∷ []) p₁ .0)) $ pass1 ! (init ! 24 refl (shr-slice-lawful 𝓤 H A W (named 1) κ₁ u32 .typed s₂ (v₂ ∷ []) p₂ .0)) $
-        pass1 ! (init ! 22 refl (shr-slice-lawful 𝓤 H A W (named 2) κ₂ u64 .typed s₃ (v₃ ∷ []) p₃ .0)) $ pass1 ! (init ! 20 refl (shr-slice-lawful 𝓤 H A W (named 3) κ₃ u8 .typed s₄ (v₄ ∷ []) p₄ .0)) $
+        pass1 ! (init ! 26 refl (shr-slice-lawful 𝓤 H A W (named 0) κ₀ u32 .typed s₁ (mach-slice s₁ ∷ []) p₁ .0)) $ pass1 ! (init ! 24 refl (shr-slice-lawful 𝓤 H A W (named 1) κ₁ u32 .typed s₂ (mach-slice s₂ ∷ []) p₂ .0)) $
+        pass1 ! (init ! 22 refl (shr-slice-lawful 𝓤 H A W (named 2) κ₂ u64 .typed s₃ (mach-slice s₃ ∷ []) p₃ .0)) $ pass1 ! (init ! 20 refl (shr-slice-lawful 𝓤 H A W (named 3) κ₃ u8 .typed s₄ (mach-slice s₄ ∷ []) p₄ .0)) $
         pass1 ! (init ! 18 refl (tt, (tt, (record { fits = room .0 }, tt)))) $ pass1 ! (init ! 16 refl (tt, record { fits = k-fits })) $ pass1 ! (init ! 14 refl (sint-lawful 𝓤 H A W w64 .typed d _ (refl, d-fits) .0)) $ pass0 ! $
         -- what is owned, one by one
         move ! (33 ∷ []) $ fsplit ! $ move ! (1 ∷ []) $ fsplit ! $ move ! (1 ∷ []) $ fsplit ! $ move ! (1 ∷ []) $ fsplit ! $ move ! (1 ∷ []) $ fsplit ! $ move ! (1 ∷ []) $ fsplit ! $ fsplit3 ! $ drop ! $ move ! (2 ∷ []) $ drop ! $
