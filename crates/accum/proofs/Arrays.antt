@@ -25,29 +25,38 @@ use borrow.Table.Elements.{at, cut-app, join-app, same-len}
 
 -- ---- the first n of m elements, apart from the others, and together again
 
-module _ {M : Type 1} (𝓤 : URA M) (H : Heap 𝓤) (A : Atoms 𝓤) (W : Given 𝓤 H A) (R : RattleType) (m n : ℕ) (xs : List (R .Denot)) (b : ℕ) where
+module _ {M : Type 1} (𝓤 : URA M) (H : Heap 𝓤) (A : Atoms 𝓤) (W : Given 𝓤 H A)
+    (R : RattleType) (m n : ℕ) (xs : List (R .Denot)) (b : ℕ) where
   -- where the others begin
   abbrev pub behind : ℕ
   behind = at 0 (mem R .size) (length (take n xs))
 
-  pub first-out : Single (R .mir) → ent 𝓤 (sem 𝓤 H A (mem (Array R m) .lies xs b 0)) (sep 𝓤 (sem 𝓤 H A (cells (mem R) (take n xs) b 0)) (sem 𝓤 H A (cells (mem R) (drop n xs) b behind)))
+  pub first-out : Single (R .mir) → ent 𝓤 (sem 𝓤 H A (mem (Array R m) .lies xs b 0))
+      (sep 𝓤 (sem 𝓤 H A (cells (mem R) (take n xs) b 0)) (sem 𝓤 H A (cells (mem R) (drop n xs) b behind)))
   first-out one =
-      qed W (‵ (mem (Array R m) .lies xs b 0) ∷ []) ∵ use1 W (‵ (arr-parts (shares R) m .part fullShare xs b 0)) (array-apart 𝓤 H A W R fullShare one m xs b 0) $ fsplit ! $ toss ! $
-      use1 W (‵ (cells (mem R) xs b 0)) (whole-in 𝓤 H A W R xs b 0) $ rewrite ! 0 (λ (ys : List (R .Denot)). ‵ (cells (mem R) ys b 0)) (sym (take-append-drop n xs)) refl $
-      use1 W (‵ (cells (mem R) (take n xs) b 0) ⊛ ‵ (cells (mem R) (drop n xs) b behind)) (cut-app 𝓤 H A (mem R) (take n xs) (drop n xs) b 0) $ split ! $ done !
+      qed W (‵ (mem (Array R m) .lies xs b 0) ∷ []) ∵
+      use1 W (‵ (arr-parts (shares R) m .part fullShare xs b 0)) (array-apart 𝓤 H A W R fullShare one m xs b 0) $ fsplit ! $ toss ! $
+      use1 W (‵ (cells (mem R) xs b 0)) (whole-in 𝓤 H A W R xs b 0) $
+      rewrite ! 0 (λ (ys : List (R .Denot)). ‵ (cells (mem R) ys b 0)) (sym (take-append-drop n xs)) refl $
+      use1 W (‵ (cells (mem R) (take n xs) b 0) ⊛ ‵ (cells (mem R) (drop n xs) b behind))
+      (cut-app 𝓤 H A (mem R) (take n xs) (drop n xs) b 0) $ split ! $ done !
 
   pub first-in : (ys : List (R .Denot)) → length ys ≡ length (take n xs) → length xs ≡ m
-      → ent 𝓤 (sep 𝓤 (sem 𝓤 H A (cells (mem R) ys b 0)) (sem 𝓤 H A (cells (mem R) (drop n xs) b behind))) (sem 𝓤 H A (mem (Array R m) .lies (ys ++ drop n xs) b 0))
+      → ent 𝓤 (sep 𝓤 (sem 𝓤 H A (cells (mem R) ys b 0)) (sem 𝓤 H A (cells (mem R) (drop n xs) b behind)))
+      (sem 𝓤 H A (mem (Array R m) .lies (ys ++ drop n xs) b 0))
   first-in ys e l =
-      qed W (‵ (cells (mem R) ys b 0) ∷ ‵ (cells (mem R) (drop n xs) b behind) ∷ []) ∵ rewrite ! 1 (λ (k : ℕ). ‵ (cells (mem R) (drop n xs) b (at 0 (mem R .size) k))) (sym e) refl $
+      qed W (‵ (cells (mem R) ys b 0) ∷ ‵ (cells (mem R) (drop n xs) b behind) ∷ []) ∵
+      rewrite ! 1 (λ (k : ℕ). ‵ (cells (mem R) (drop n xs) b (at 0 (mem R .size) k))) (sym e) refl $
       use2 W (‵ (cells (mem R) (ys ++ drop n xs) b 0)) (join-app 𝓤 H A (mem R) ys (drop n xs) b 0) $
-      use1 W (‵ (row R fullShare (ys ++ drop n xs) b 0)) (whole-out 𝓤 H A W R (ys ++ drop n xs) b 0) $ feqI ! ℕ (length (ys ++ drop n xs)) m (same-len n xs ys e ∙ l) $ fjoin ! $
+      use1 W (‵ (row R fullShare (ys ++ drop n xs) b 0)) (whole-out 𝓤 H A W R (ys ++ drop n xs) b 0) $
+      feqI ! ℕ (length (ys ++ drop n xs)) m (same-len n xs ys e ∙ l) $ fjoin ! $
       use1 W (‵ (mem (Array R m) .lies (ys ++ drop n xs) b 0)) (array-whole 𝓤 H A W R fullShare m (ys ++ drop n xs) b 0) $ done !
 
 -- ---- m structs: a field of a struct has them as tuples
 
 module _ (D : Declared) (m : ℕ) where
-  each-in : (xs : List (D .D)) (us : List Val) → shadow (each (D .D) (struct-row D .own) xs us) → shadow (each (field D .row .Denot) (field D .row .own) (map (D .to) xs) us)
+  each-in : (xs : List (D .D)) (us : List Val) → shadow (each (D .D) (struct-row D .own) xs us)
+      → shadow (each (field D .row .Denot) (field D .row .own) (map (D .to) xs) us)
   each-in [] [] s = s
   each-in [] (u ∷ us) s = s
   each-in (x ∷ xs) [] s = s

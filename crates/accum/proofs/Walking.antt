@@ -15,6 +15,10 @@ use ghost.Atoms.{Atoms}
 use types.Kit.{Given, Item, ‵, ⋆, _⊛_, _$_, _∵_, !, qed, move, split, join, done, Post, anyQ, post, runs, Seq}
 use types.Run.{Opd, first, branches, skips}
 use denote.Laws.{Is}
+use denote.Builtin.{u8, u32, u64}
+use denote.Exit.{yes}
+use denote.Signature.{Slot, AllWithin, plain, shrSliceOf}
+use denote.Triple.Walked.{stay-dropped, Goes, Silent, goes-dropped}
 use denote.Ref.{RefT}
 use denote.Slice.{sliceVal}
 use Rattle.counts.specs.declared.Counts.{Counts}
@@ -79,6 +83,35 @@ module _ {M : Type 1} (𝓤 : URA M) (κ₀ κ₁ κ₂ κ₃ : Lft) (q₀ q₁ 
           qed W (four ∷ ‵ (flft κ₄ q₄) ∷ []) ∵ split ! $ move ! (1 ∷ []) $ split ! $ move ! (1 ∷ []) $ split ! $ move ! (1 ∷ []) $ split ! $
           -- [κ₃; true; κ₂; κ₁; κ₀; κ₄]
           move ! (5 ∷ 1 ∷ []) $ join ! $ move ! (1 ∷ 0 ∷ []) $ join ! $ move ! (1 ∷ 0 ∷ []) $ join ! $ move ! (1 ∷ 0 ∷ []) $ join ! $ move ! (1 ∷ 0 ∷ []) $ join ! $ done !
+
+-- ---- of the counts and the four tables nothing is had at exit
+
+module _ {M : Type 1} (𝓤 : URA M) (H : Heap 𝓤) (A : Atoms 𝓤) (W : Given 𝓤 H A) (n : ℕ) where
+  abbrev Gone : Slot n → Type 1
+  Gone s = Goes 𝓤 H A W n s yes (stay-dropped s yes)
+
+  pub gone : (s : Slot n) → Silent 𝓤 H A W n s yes → Gone s
+  gone s = goes-dropped 𝓤 H A W n s yes
+
+  -- before the laws of the parameters behind them
+  pub tables-gone : (w₀ : AllWithin n (0 ∷ [])) (w₁ : AllWithin n (1 ∷ [])) (w₂ : AllWithin n (2 ∷ []))
+      (w₃ : AllWithin n (3 ∷ [])) {X : Type 1} → X
+      → Gone (plain (λ _. Co.the-row)) × (Gone (shrSliceOf (0 ∷ []) w₀ (plain (λ _. u32)))
+      × (Gone (shrSliceOf (1 ∷ []) w₁ (plain (λ _. u32))) × (Gone (shrSliceOf (2 ∷ []) w₂ (plain (λ _. u64)))
+      × (Gone (shrSliceOf (3 ∷ []) w₃ (plain (λ _. u8))) × X))))
+  tables-gone w₀ w₁ w₂ w₃ x = (
+    gone (plain (λ _. Co.the-row)) (λ κs y f. refl),
+    (
+      gone (shrSliceOf (0 ∷ []) w₀ (plain (λ _. u32))) (λ κs y f. refl),
+      (
+        gone (shrSliceOf (1 ∷ []) w₁ (plain (λ _. u32))) (λ κs y f. refl),
+        (
+          gone (shrSliceOf (2 ∷ []) w₂ (plain (λ _. u64))) (λ κs y f. refl),
+          (gone (shrSliceOf (3 ∷ []) w₃ (plain (λ _. u8))) (λ κs y f. refl), x),
+        ),
+      ),
+    ),
+  )
 
 -- ---- `if c { a }`, and then the rest
 

@@ -62,7 +62,8 @@ fn accum_at_first(
     }
 }
 
-// Accum on number k of `count` accumulators by d, in a flat list of three words for each: copied to structs, which are lent to the call, and back.
+// Accum on number k of `count` accumulators by d, in a flat list of three words for each. They are copied to structs, which are lent to the
+// call, and back.
 pub fn accum_listed_lent(
     c: Counts,
     links: &[u32],

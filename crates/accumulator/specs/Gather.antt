@@ -1,10 +1,10 @@
 -- Accumulators as structs and the same as words: a copy from the one list to the other, one accumulator after the other, and accum in both.
 use Prim.Native.Nat.{ℕ, suc, _+_, _*_, _≤_, _<_}
 use mathlib.Core.Path.{_≡_, refl, sym, ap, _∙_, subst}
-use mathlib.Core.Bool.{Bool, true, false, not}
+use mathlib.Core.Bool.{Bool, true, false, not, _&&_}
 use mathlib.Core.List.{List, [], _∷_, _++_}
 use native.Mathlib.Omega.{arith}
-use borrow.Author.Tests.{leb-true, not-true, not-false}
+use borrow.Author.Tests.{eq-eqb, leb-true, not-true, not-false}
 use lib.Dec.{eqb, leb}
 use lib.ListN.{length, getD, set, take, drop, length-set}
 use lib.Seq.{take-add, drop-cons, take-all, take-suc, take-suc-set, take-set-le, getD-set-same, getD-set-other}
@@ -43,7 +43,8 @@ next-three : (i : ℕ) → 3 * i + 3 ≡ 3 * suc i
 next-three i = omega arith
 
 -- the words from a place on, where there are three
-three-left : (l : List ℤ) (n : ℕ) → n + 3 ≤ length l → drop n l ≡ getD l n (pos 0) ∷ getD l (n + 1) (pos 0) ∷ getD l (n + 2) (pos 0) ∷ drop (n + 3) l
+three-left : (l : List ℤ) (n : ℕ) → n + 3 ≤ length l
+    → drop n l ≡ getD l n (pos 0) ∷ getD l (n + 1) (pos 0) ∷ getD l (n + 2) (pos 0) ∷ drop (n + 3) l
 three-left l n h =
     rw (sym (one-more n), sym (two-more n), sym (three-more n))
     (drop-cons l n (pos 0) (omega (arith, h))
@@ -111,8 +112,8 @@ module _ (n i : ℕ) (xs : List Accumulator) (l : List ℤ) (c : Copied n i xs l
     within = omega (arith, k);
     room = omega (arith, d, c .room);
     words = e ∙ c .words;
-    are = ap (λ (j : ℕ). flat (take j ys)) (sym (one-more i)) ∙ ap flat p ∙ flat-append (take i xs) (v ∷ []) ∙ ap (λ (w : List ℤ). w ++ flat (v ∷ [])) (c .are)
-        ∙ sym q ∙ ap (λ (j : ℕ). take j m) (next-three i ∙ ap (λ (j : ℕ). 3 * j) (one-more i));
+    are = ap (λ (j : ℕ). flat (take j ys)) (sym (one-more i)) ∙ ap flat p ∙ flat-append (take i xs) (v ∷ [])
+        ∙ ap (λ (w : List ℤ). w ++ flat (v ∷ [])) (c .are) ∙ sym q ∙ ap (λ (j : ℕ). take j m) (next-three i ∙ ap (λ (j : ℕ). 3 * j) (one-more i));
   }
 
   -- from words to structs
@@ -140,18 +141,37 @@ copied-out n i xs l c h =
 
 -- ---- accum in both
 
+and-true : (b : Bool) → (b && true) ≡ b
+and-true true = refl
+and-true false = refl
+
+-- accum on the words of a list of structs is accum on the structs
+pub flat-listed : (c : Counts) (t : Tables) (k : ℕ) (d : ℤ) (xs : List Accumulator)
+    → accumListed c t (length xs) k d (flat xs) ≡ flattened (accumAt c t k d xs)
+unfolding accumListed accumAt listFine
+flat-listed c t k d xs =
+    ap (λ (b : Bool). accumed (countFine (length xs) && b)) (eq-eqb (length (flat xs)) (3 * length xs) (flat-length xs))
+    ∙ ap accumed (and-true (countFine (length xs)))
+    ∙ ap (λ (s : Changed). changing (listJudged (countFine (length xs)) (numberFine (length xs) k) c t) (flat xs) s)
+    (flat-updated k (timeOf c t) d xs)
+    ∙ go (listJudged (countFine (length xs)) (numberFine (length xs) k) c t)
+  where
+    accumed : Bool → Changed
+    accumed b = changing (listJudged b (numberFine (length xs) k) c t) (flat xs) (updatedIn k (timeOf c t) d (flat xs))
+
+    go : (j : Verdict)
+        → changing j (flat xs) (flattened (updatedAt k (timeOf c t) d xs)) ≡ flattened (listing j xs (updatedAt k (timeOf c t) d xs))
+    go Fine = refl
+    go (Judged e) = refl
+
 -- a list that passed the test: 1 to 64 accumulators, three words for each
 module _ (n m words : ℕ) (ok : Bool) (o : ok ≡ listFine n words) (f : not ok ≡ false) (w : m ≡ n) where
   passed : listFine n words ≡ true
   passed = sym o ∙ not-false ok f
 
-  counted : countFine n ≡ true
-  unfolding listFine
-  counted = both (countFine n) (eqb words (3 * n)) passed .0
-
   pub listed-in : m ≤ 64
-  unfolding countFine
-  listed-in = omega (arith, w, leb-true n 64 (both (leb 1 n) (leb n 64) counted .1))
+  unfolding listFine countFine
+  listed-in = omega (arith, w, leb-true n 64 (both (leb 1 n) (leb n 64) (both (countFine n) (eqb words (3 * n)) passed .0) .1))
 
   pub listed-within : (m ≤ 64) × (words ≡ 3 * m)
   listed-within = (listed-in, words-are n words passed ∙ ap (λ (j : ℕ). 3 * j) (sym w))
@@ -167,17 +187,9 @@ module _ (c : Counts) (t : Tables) (n k : ℕ) (d : ℤ) (l : List ℤ) (ok : Bo
     same-count : length xs ≡ n
     same-count = omega (arith, flat-length xs, ap (λ (v : List ℤ). length v) q, listed-within n m (length l) ok o f w .1, w)
 
-    -- accum on the words is accum on the structs
+    -- else accum on structs that are the words answers for the words
     pub listed-flat : (ys : List Accumulator) (r : Answer) (e : ℤ) → e ≡ d → record { list = ys; answer = r } ≡ accumAt c t k e xs
         → (v : List ℤ) → v ≡ flat ys → record { words = v; answer = r } ≡ accumListed c t n k d l
-    unfolding accumListed accumAt
     listed-flat ys r e x p v z =
-        ap (λ (u : List ℤ). record { words = u; answer = r }) z ∙ ap flattened (p ∙ ap (λ (y : ℤ). accumAt c t k y xs) x) ∙ go (listJudged (countFine (length xs)) (numberFine (length xs) k) c t)
-        ∙ ap (λ (s : Changed). changing (listJudged (countFine (length xs)) (numberFine (length xs) k) c t) (flat xs) s) (sym (flat-updated k (timeOf c t) d xs))
-        ∙ ap (λ (u : List ℤ). changing (listJudged (countFine (length xs)) (numberFine (length xs) k) c t) u (updatedIn k (timeOf c t) d u)) q
-        ∙ ap (λ (j : ℕ). changing (listJudged (countFine j) (numberFine j k) c t) l (updatedIn k (timeOf c t) d l)) same-count
-        ∙ ap (λ (b : Bool). changing (listJudged b (numberFine n k) c t) l (updatedIn k (timeOf c t) d l)) (counted n m (length l) ok o f w ∙ sym (passed n m (length l) ok o f w))
-      where
-        go : (j : Verdict) → flattened (listing j xs (updatedAt k (timeOf c t) d xs)) ≡ changing j (flat xs) (flattened (updatedAt k (timeOf c t) d xs))
-        go Fine = refl
-        go (Judged e) = refl
+        ap (λ (u : List ℤ). record { words = u; answer = r }) z ∙ ap flattened (p ∙ ap (λ (y : ℤ). accumAt c t k y xs) x)
+        ∙ sym (flat-listed c t k d xs) ∙ ap (λ (u : List ℤ). accumListed c t (length xs) k d u) q ∙ ap (λ (j : ℕ). accumListed c t j k d l) same-count

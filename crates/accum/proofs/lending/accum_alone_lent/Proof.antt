@@ -1,4 +1,5 @@
--- `accum_alone_lent` meets its contract: a walk of its MIR, by hand. The accumulator is copied into a local, which is lent to `accum_one` for a lifetime that is made for the call, and comes back at the last value that the callee says.
+-- `accum_alone_lent` meets its contract: a walk of its MIR, by hand.
+-- The accumulator is copied into a local, which is lent to `accum_one` for a lifetime that is made for the call, and comes back at the last value that the callee says.
 use mathlib.Core.Path.{_≡_, refl, ap}
 use Prim.Native.Nat.{ℕ, _<_, _^_}
 use mathlib.Core.List.{[], _∷_, List}
@@ -30,7 +31,7 @@ use denote.Signed.{sint-vals, sint-tells, sint-lawful}
 use denote.Builtin.{u8, u32, u64, i64}
 use denote.Ref.{RefT, MutRef}
 use denote.Lend.{lends-ref, ref-back}
-use denote.Signature.{Slot, plain, shrSliceOf}
+use denote.Signature.{plain}
 use denote.Slice.{ShrSlice, slice-vals, shr-slice-tells, shr-slice-lawful}
 use denote.Steps.{only, owned, peeks, heard, nothing}
 use denote.Struct.Laws as LL
@@ -41,7 +42,7 @@ use denote.Triple.Entry.{onEntry}
 use denote.Triple.Spec.{Meets, tripleOf}
 use denote.Triple.Table.{entered, cited}
 use denote.Triple.Clauses.{ensured, Lasts, lasts}
-use denote.Triple.Walked.{says, Stays, stay-dropped, walkOf, AllGo, Goes, Silent, goes-dropped, Walks, ends-at, walked, walk-meets}
+use denote.Triple.Walked.{says, Stays, stay-dropped, walkOf, AllGo, Walks, ends-at, walked, walk-meets}
 use denote.Exit.{yes}
 use Rattle.counts.specs.declared.Counts.{Counts}
 use Rattle.counts.proofs.Counts as Co
@@ -54,7 +55,7 @@ use Rattle.accumulator.specs.declared.Accumulator.{Accumulator}
 use Rattle.accumulator.specs.declared.Kept as declared
 use Rattle.accumulator.proofs.Accumulator as T
 use Rattle.accumulator.proofs.Accumulator.Laws as T′
-use Rattle.accum.proofs.Walking.{mach, mach-counts, mach-answer, mach-slice, answer-spelt, four, five, tokens-out, tokens-in}
+use Rattle.accum.proofs.Walking.{mach, mach-counts, mach-answer, mach-slice, answer-spelt, four, five, tokens-out, tokens-in, gone, tables-gone}
 use Rattle.accum.proofs.Locals.{lies-in, lies-out}
 use Rattle.accumulator.proofs.Kept as U
 use Rattle.accumulator.proofs.Kept.Laws as U′
@@ -212,25 +213,9 @@ module _ {M : Type 1} (𝓤 : URA M) (H : Heap 𝓤) (A : Atoms 𝓤) (W : Given
       C Λ fm known (are .0) (are .1 .0) (are .1 .1 .0) (are .1 .1 .1 .0) (are .1 .1 .1 .1 .0) (are .1 .1 .1 .1 .1 .0) (are .1 .1 .1 .1 .1 .1 .0 .1)))
 
   goes : AllGo 𝓤 H A W 4 (this.signature .params) (this.ended .kept) stayed
-  goes = (
-    gone (plain (λ _. Co.the-row)) (λ κs x f. refl),
-    (
-      gone (shrSliceOf (0 ∷ []) tt (plain (λ _. u32))) (λ κs x f. refl),
-      (
-        gone (shrSliceOf (1 ∷ []) tt (plain (λ _. u32))) (λ κs x f. refl),
-        (
-          gone (shrSliceOf (2 ∷ []) tt (plain (λ _. u64))) (λ κs x f. refl),
-          (
-            gone (shrSliceOf (3 ∷ []) tt (plain (λ _. u8))) (λ κs x f. refl),
-            (gone (plain (λ _. T.the-row)) (λ κs x f. refl), (gone (plain (λ _. i64)) (λ κs x f. refl), tt)),
-          ),
-        ),
-      ),
-    ),
-  )
-    where
-      gone : (s : Slot 4) → Silent 𝓤 H A W 4 s yes → Goes 𝓤 H A W 4 s yes (stay-dropped s yes)
-      gone s = goes-dropped 𝓤 H A W 4 s yes
+  goes =
+      tables-gone 𝓤 H A W 4 tt tt tt tt
+      (gone 𝓤 H A W 4 (plain (λ _. T.the-row)) (λ κs x f. refl), (gone 𝓤 H A W 4 (plain (λ _. i64)) (λ κs x f. refl), tt))
 
 meets : {M : Type 1} (𝓤 : URA M) (H : Heap 𝓤) (A : Atoms 𝓤) → Given 𝓤 H A → (at-mem : Memory → SProp 𝓤) (run : Routine → Fun 𝓤) (𝓣 : Tables 𝓤 H) → Triple 𝓤 (𝓣 .C #one) (One 𝓤 H A at-mem run)
     → Meets 𝓤 H A this.signature (WpFn 𝓤 H (𝓣 .C) (𝓣 .Λ) code.function) (this.spec 𝓤 H A at-mem run)

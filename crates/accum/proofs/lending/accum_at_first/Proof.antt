@@ -1,4 +1,6 @@
--- `accum_at_first` meets its contract: a walk of its MIR, by hand. The array is copied into a local, of which the first n elements are lent to `accum_at` for a lifetime that is made for the call. They come back at the last list that the callee says, and with the others they are the array again.
+-- `accum_at_first` meets its contract: a walk of its MIR, by hand. The array is copied into a local,
+-- of which the first n elements are lent to `accum_at` for a lifetime that is made for the call.
+-- They come back at the last list that the callee says, and with the others they are the array again.
 use mathlib.Core.Path.{_≡_, refl, sym, ap, _∙_}
 use Prim.Native.Nat.{ℕ, _<_, _≤_, _^_}
 use native.Mathlib.Omega.{arith}
@@ -36,7 +38,7 @@ use denote.Builtin.{u8, u32, u64, usize, i64, ArrayOf}
 use denote.Array.{Array, array-lawful}
 use denote.Ref.{RefT}
 use denote.Lend.{Held, lends-slice, slice-back}
-use denote.Signature.{Slot, plain, shrSliceOf}
+use denote.Signature.{plain}
 use denote.Slice.{sliceTy, sliceVal, ShrSlice, MutSlice, Room, slice-vals, shr-slice-tells, shr-slice-lawful}
 use denote.Steps.{only, owned, peeks, heard, nothing}
 use denote.Struct.Laws as LL
@@ -47,7 +49,7 @@ use denote.Triple.Entry.{onEntry}
 use denote.Triple.Spec.{Meets, tripleOf}
 use denote.Triple.Table.{entered, cited}
 use denote.Triple.Clauses.{ensured, Lasts, lasts}
-use denote.Triple.Walked.{says, needs, Stays, stay-dropped, walkOf, AllGo, Goes, Silent, goes-dropped, Walks, ends-at, walked, walk-meets}
+use denote.Triple.Walked.{says, needs, Stays, stay-dropped, walkOf, AllGo, Walks, ends-at, walked, walk-meets}
 use denote.Exit.{yes}
 use Rattle.counts.specs.declared.Counts.{Counts}
 use Rattle.counts.proofs.Counts as Co
@@ -61,7 +63,7 @@ use Rattle.accumulator.specs.declared.Accumulator.{Accumulator}
 use Rattle.accumulator.proofs.Accumulator as T
 use Rattle.accumulator.proofs.Accumulator.Laws as T′
 use Rattle.accum.specs.declared.lending.Relisted as declared
-use Rattle.accum.proofs.Walking.{mach-counts, mach-answer, mach-slice, answer-spelt, four, five, tokens-out, tokens-in}
+use Rattle.accum.proofs.Walking.{mach-counts, mach-answer, mach-slice, answer-spelt, four, five, tokens-out, tokens-in, gone, tables-gone}
 use Rattle.accum.proofs.Locals.{lies-in, lies-out}
 use Rattle.accum.proofs.Arrays.{behind, first-out, first-in, all-in, all-val, all-tells}
 use Rattle.accum.proofs.lending.Relisted as U
@@ -259,28 +261,14 @@ module _ {M : Type 1} (𝓤 : URA M) (H : Heap 𝓤) (A : Atoms 𝓤) (W : Given
       n-in (are .1 .1 .1 .1 .1 .0) C Λ fm known (are .0) (are .1 .0) (are .1 .1 .0) (are .1 .1 .1 .0) (are .1 .1 .1 .1 .0) (are .1 .1 .1 .1 .1 .1 .0 .1) (are .1 .1 .1 .1 .1 .1 .1 .0 .1) (are .1 .1 .1 .1 .1 .1 .1 .1 .0 .1)))
 
   goes : AllGo 𝓤 H A W 4 (this.signature .params) (this.ended .kept) stayed
-  goes = (
-    gone (plain (λ _. Co.the-row)) (λ κs x f. refl),
-    (
-      gone (shrSliceOf (0 ∷ []) tt (plain (λ _. u32))) (λ κs x f. refl),
-      (
-        gone (shrSliceOf (1 ∷ []) tt (plain (λ _. u32))) (λ κs x f. refl),
+  goes =
+      tables-gone 𝓤 H A W 4 tt tt tt tt (
+        gone 𝓤 H A W 4 (ArrayOf (plain (λ _. T.the-row)) (λ _. tt) 64) (λ κs x f. refl),
         (
-          gone (shrSliceOf (2 ∷ []) tt (plain (λ _. u64))) (λ κs x f. refl),
-          (
-            gone (shrSliceOf (3 ∷ []) tt (plain (λ _. u8))) (λ κs x f. refl),
-            (
-              gone (ArrayOf (plain (λ _. T.the-row)) (λ _. tt) 64) (λ κs x f. refl),
-              (gone (plain (λ _. usize)) (λ κs x f. refl), (gone (plain (λ _. u32)) (λ κs x f. refl), (gone (plain (λ _. i64)) (λ κs x f. refl), tt))),
-            ),
-          ),
+          gone 𝓤 H A W 4 (plain (λ _. usize)) (λ κs x f. refl),
+          (gone 𝓤 H A W 4 (plain (λ _. u32)) (λ κs x f. refl), (gone 𝓤 H A W 4 (plain (λ _. i64)) (λ κs x f. refl), tt)),
         ),
-      ),
-    ),
-  )
-    where
-      gone : (s : Slot 4) → Silent 𝓤 H A W 4 s yes → Goes 𝓤 H A W 4 s yes (stay-dropped s yes)
-      gone s = goes-dropped 𝓤 H A W 4 s yes
+      )
 
 meets : {M : Type 1} (𝓤 : URA M) (H : Heap 𝓤) (A : Atoms 𝓤) → Given 𝓤 H A → (at-mem : Memory → SProp 𝓤) (run : Routine → Fun 𝓤) (𝓣 : Tables 𝓤 H) → Triple 𝓤 (𝓣 .C #callee) (At 𝓤 H A at-mem run)
     → Meets 𝓤 H A this.signature (WpFn 𝓤 H (𝓣 .C) (𝓣 .Λ) code.function) (this.spec 𝓤 H A at-mem run)

@@ -31,7 +31,7 @@ use denote.Builtin.{u8, u32, u64, usize, i64}
 use denote.Ref.{RefT}
 use denote.Shadow.{pureI}
 use denote.Lend.{Held}
-use denote.Signature.{Slot, plain, shrSliceOf}
+use denote.Signature.{plain}
 use denote.Slice.{sliceVal, ShrSlice, MutSlice, heres, Room, slice-vals, shr-slice-tells, mut-slice-tells, shr-slice-lawful, at-slice, codedHoleys}
 use denote.Index.{place-is, elem-out, elem-put, opens-slice, closes-slice}
 use denote.Steps.{only, owned, peeks, heard, nothing}
@@ -43,7 +43,7 @@ use denote.Triple.Entry.{onEntry}
 use denote.Triple.Spec.{Meets, tripleOf}
 use denote.Triple.Table.{entered, cited}
 use denote.Triple.Clauses.{ensured, lasts}
-use denote.Triple.Walked.{says, Stays, stay-slice, stay-dropped, walkOf, AllGo, Goes, Silent, goes-dropped, goes-slice, Walks, ends-at, walked, walk-meets}
+use denote.Triple.Walked.{says, Stays, stay-slice, stay-dropped, walkOf, AllGo, goes-slice, Walks, ends-at, walked, walk-meets}
 use denote.Exit.{yes}
 use borrow.Author.Needs.{scaled-fits}
 use Rattle.counts.specs.Counts.{limit}
@@ -62,7 +62,7 @@ use Rattle.accumulator.specs.declared.Kept as kept-declared
 use Rattle.accumulator.specs.declared.Picked as picked-declared
 use Rattle.accumulator.proofs.Accumulator as T
 use Rattle.accumulator.proofs.Accumulator.Laws as T′
-use Rattle.accum.proofs.Walking.{mach, mach-counts, mach-answer, mach-slice, value-is, answer-is, four, five, tokens-out, tokens-in, early, held, failed}
+use Rattle.accum.proofs.Walking.{mach, mach-counts, mach-answer, mach-slice, value-is, answer-is, four, five, tokens-out, tokens-in, gone, tables-gone, early, held, failed}
 use Rattle.accumulator.proofs.Kept as U
 use Rattle.accumulator.proofs.Kept.Laws as U′
 use Rattle.accumulator.proofs.Picked as P
@@ -272,25 +272,11 @@ module _ {M : Type 1} (𝓤 : URA M) (H : Heap 𝓤) (A : Atoms 𝓤) (W : Given
       (are .1 .1 .1 .1 .1 .0 .0 .1) (are .1 .1 .1 .1 .1 .1 .0 .1) (are .1 .1 .1 .1 .1 .1 .1 .0 .1) C Λ fm known-pick known-step (are .0) (are .1 .0) (are .1 .1 .0) (are .1 .1 .1 .0) (are .1 .1 .1 .1 .0)))
 
   goes : AllGo 𝓤 H A W 5 (this.signature .params) (this.ended .kept) stayed
-  goes = (
-    gone (plain (λ _. Co.the-row)) (λ κs x f. refl),
-    (
-      gone (shrSliceOf (0 ∷ []) tt (plain (λ _. u32))) (λ κs x f. refl),
-      (
-        gone (shrSliceOf (1 ∷ []) tt (plain (λ _. u32))) (λ κs x f. refl),
-        (
-          gone (shrSliceOf (2 ∷ []) tt (plain (λ _. u64))) (λ κs x f. refl),
-          (
-            gone (shrSliceOf (3 ∷ []) tt (plain (λ _. u8))) (λ κs x f. refl),
-            (goes-slice 𝓤 H A W 5 4 tt (plain (λ _. T.the-row)), (gone (plain (λ _. u32)) (λ κs x f. refl), (gone (plain (λ _. i64)) (λ κs x f. refl), tt))),
-          ),
-        ),
-      ),
-    ),
-  )
-    where
-      gone : (s : Slot 5) → Silent 𝓤 H A W 5 s yes → Goes 𝓤 H A W 5 s yes (stay-dropped s yes)
-      gone s = goes-dropped 𝓤 H A W 5 s yes
+  goes =
+      tables-gone 𝓤 H A W 5 tt tt tt tt (
+        goes-slice 𝓤 H A W 5 4 tt (plain (λ _. T.the-row)),
+        (gone 𝓤 H A W 5 (plain (λ _. u32)) (λ κs x f. refl), (gone 𝓤 H A W 5 (plain (λ _. i64)) (λ κs x f. refl), tt)),
+      )
 
 at-meets : {M : Type 1} (𝓤 : URA M) (H : Heap 𝓤) (A : Atoms 𝓤) → Given 𝓤 H A → (at-mem : Memory → SProp 𝓤) (run : Routine → Fun 𝓤) (𝓣 : Tables 𝓤 H) → Triple 𝓤 (𝓣 .C #pick) (Picks 𝓤 H A at-mem run) → Triple 𝓤 (𝓣 .C #step) (Step 𝓤 H A at-mem run)
     → Meets 𝓤 H A this.signature (WpFn 𝓤 H (𝓣 .C) (𝓣 .Λ) code.function) (this.spec 𝓤 H A at-mem run)

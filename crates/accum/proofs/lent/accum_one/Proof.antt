@@ -28,7 +28,7 @@ use denote.Memory.{mem}
 use denote.Signed.{sint-vals, sint-tells, sint-lawful}
 use denote.Builtin.{u8, u32, u64, i64}
 use denote.Ref.{RefT, MutRef, ptr-vals, mut-tells}
-use denote.Signature.{Slot, plain, shrSliceOf}
+use denote.Signature.{plain}
 use denote.Slice.{ShrSlice, slice-vals, shr-slice-tells, shr-slice-lawful}
 use denote.Steps.{only, opens, closes, owned, peeks, heard, nothing}
 use denote.Struct.Steps.{spelt}
@@ -40,7 +40,7 @@ use denote.Triple.Entry.{onEntry}
 use denote.Triple.Spec.{Meets, tripleOf}
 use denote.Triple.Table.{entered, cited}
 use denote.Triple.Clauses.{ensured, lasts}
-use denote.Triple.Walked.{says, Stays, stay-ref, stay-dropped, walkOf, AllGo, Goes, Silent, goes-dropped, goes-ref, Walks, ends-at, walked, walk-meets}
+use denote.Triple.Walked.{says, Stays, stay-ref, stay-dropped, walkOf, AllGo, goes-ref, Walks, ends-at, walked, walk-meets}
 use denote.Exit.{yes}
 use Rattle.counts.specs.declared.Counts.{Counts}
 use Rattle.counts.proofs.Counts as Co
@@ -52,7 +52,7 @@ use Rattle.accumulator.specs.declared.Accumulator.{Accumulator}
 use Rattle.accumulator.specs.declared.Kept as declared
 use Rattle.accumulator.proofs.Accumulator as T
 use Rattle.accumulator.proofs.Accumulator.Laws as T′
-use Rattle.accum.proofs.Walking.{mach, mach-counts, mach-answer, mach-slice, value-is, answer-is, four, five, tokens-out, tokens-in}
+use Rattle.accum.proofs.Walking.{mach, mach-counts, mach-answer, mach-slice, value-is, answer-is, four, five, tokens-out, tokens-in, gone, tables-gone}
 use Rattle.accumulator.proofs.Kept as U
 use Rattle.accumulator.proofs.Kept.Laws as U′
 use Rattle.accum.proofs.calls.accum_alone as alone
@@ -194,25 +194,9 @@ module _ {M : Type 1} (𝓤 : URA M) (H : Heap 𝓤) (A : Atoms 𝓤) (W : Given
       C Λ fm known (are .0) (are .1 .0) (are .1 .1 .0) (are .1 .1 .1 .0) (are .1 .1 .1 .1 .0) (are .1 .1 .1 .1 .1 .1 .0 .1)))
 
   goes : AllGo 𝓤 H A W 5 (one.signature .params) (one.ended .kept) stayed
-  goes = (
-    gone (plain (λ _. Co.the-row)) (λ κs x f. refl),
-    (
-      gone (shrSliceOf (0 ∷ []) tt (plain (λ _. u32))) (λ κs x f. refl),
-      (
-        gone (shrSliceOf (1 ∷ []) tt (plain (λ _. u32))) (λ κs x f. refl),
-        (
-          gone (shrSliceOf (2 ∷ []) tt (plain (λ _. u64))) (λ κs x f. refl),
-          (
-            gone (shrSliceOf (3 ∷ []) tt (plain (λ _. u8))) (λ κs x f. refl),
-            (goes-ref 𝓤 H A W 5 4 tt (plain (λ _. T.the-row)), (gone (plain (λ _. i64)) (λ κs x f. refl), tt)),
-          ),
-        ),
-      ),
-    ),
-  )
-    where
-      gone : (s : Slot 5) → Silent 𝓤 H A W 5 s yes → Goes 𝓤 H A W 5 s yes (stay-dropped s yes)
-      gone s = goes-dropped 𝓤 H A W 5 s yes
+  goes =
+      tables-gone 𝓤 H A W 5 tt tt tt tt
+      (goes-ref 𝓤 H A W 5 4 tt (plain (λ _. T.the-row)), (gone 𝓤 H A W 5 (plain (λ _. i64)) (λ κs x f. refl), tt))
 
 one-meets : {M : Type 1} (𝓤 : URA M) (H : Heap 𝓤) (A : Atoms 𝓤) → Given 𝓤 H A → (at-mem : Memory → SProp 𝓤) (run : Routine → Fun 𝓤) (𝓣 : Tables 𝓤 H) → Triple 𝓤 (𝓣 .C #alone) (Alone 𝓤 H A at-mem run)
     → Meets 𝓤 H A one.signature (WpFn 𝓤 H (𝓣 .C) (𝓣 .Λ) code.function) (one.spec 𝓤 H A at-mem run)
