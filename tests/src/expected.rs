@@ -1,5 +1,6 @@
 //! The response that the engine must give to a request, worked out by the simulator.
 
+use crate::mutations::{on, M};
 use crate::protocol::{Lent, Request, Response};
 use crate::sim::accum::{list_in_limits, update_numbered, MOST};
 use crate::sim::call::number;
@@ -10,7 +11,13 @@ use crate::sim::tables;
 
 /// Whether the calls program knows this call.
 pub fn known(call: u32) -> bool {
-    matches!(call, number::JUDGE..=number::ACCUM | number::FIRST..=number::FINISH | number::RUN..=number::FRESH)
+    matches!(
+        call,
+        number::JUDGE..=number::ACCUM
+            | number::FIRST..=number::FINISH
+            | number::ACCUM_IN_PLACE..=number::FRESH_MODEL
+            | number::RUN..=number::FRESH
+    )
 }
 
 /// Code, line count, answer and every word afterwards.
@@ -34,6 +41,10 @@ pub fn expected(request: &Request) -> Response {
         let code = fresh(request, &mut lent).err().unwrap_or(0);
         return Response { code, lines: 0, answer: 0, lent };
     }
+    if request.call.number == number::FRESH_MODEL {
+        let code = fresh_model(request, &mut lent).err().unwrap_or(0);
+        return Response { code, lines: 0, answer: 0, lent };
+    }
     let (code, answer) = match direct(request, &mut lent) {
         Ok(answer) => (0, answer),
         Err(refusal) => (refusal, 0),
@@ -44,13 +55,15 @@ pub fn expected(request: &Request) -> Response {
 /// A call on the tables themselves: 1 and 2 on the whole model, then the call on its lists.
 fn direct(request: &Request, lent: &mut Lent) -> Result<u64, Refusal> {
     let call = request.call;
-    let numbered = call.number == number::ACCUM;
+    let numbered = matches!(call.number, number::ACCUM | number::ACCUM_IN_PLACE);
     require(!numbered || list_in_limits(&lent.accums), 1)?;
     let mut model = tables::decode(request.counts, &lent.tables)?;
     match call.number {
         number::JUDGE => Ok(0),
-        number::ACCUM => update_numbered(&mut lent.accums, call.x, model.time(), call.t).map(|()| 0),
-        number::ACCUM_ALONE => {
+        number::ACCUM | number::ACCUM_IN_PLACE => {
+            update_numbered(&mut lent.accums, call.x, model.time(), call.t).map(|()| 0)
+        }
+        number::ACCUM_ALONE | number::ACCUM_BY_VALUE => {
             let alone = lent.accums.len().min(1);
             update_numbered(&mut lent.accums[..alone], 1, model.time(), call.t).map(|()| 0)
         }
@@ -78,6 +91,16 @@ fn fresh(request: &Request, lent: &mut Lent) -> Result<(), Refusal> {
     let places = sheet.counts.processes as usize + 1;
     require(lent.positions.len() == places && lent.accums.len() == MOST, 1)?;
     write_run(&Run::fresh(&sheet), lent);
+    Ok(())
+}
+
+/// The tables of a fresh model: 1 where a count is outside its limit or a length is another; what they held does not matter.
+fn fresh_model(request: &Request, lent: &mut Lent) -> Result<(), Refusal> {
+    if on(M::FreshJudged) {
+        tables::decode(request.counts, &lent.tables)?;
+    }
+    tables::judge_lengths(request.counts, &lent.tables)?;
+    lent.tables = tables::encode(&Model::fresh(request.counts));
     Ok(())
 }
 

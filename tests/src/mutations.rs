@@ -67,6 +67,7 @@ mutations! {
     IdleTimeTaken: "an idle process may have a time",
     PredecessorsUnread: "the predecessor halves are not looked at",
     MainMarkTaken: "main may be terminated",
+    FreshJudged: "damaged tables are refused where they are to be filled for a fresh model",
     UnusedFieldsFree: "unused fields of a record may hold anything",
     UnreachedFree: "records that no chain reaches are not judged",
     OperandAtStep: "an operand out of range is refused at its step, not with the sheet",

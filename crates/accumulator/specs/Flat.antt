@@ -4,7 +4,7 @@ use mathlib.Core.Path.{_≡_, refl, sym, ap, _∙_}
 use mathlib.Core.Logic.{_⊎_, inl, inr}
 use mathlib.Core.List.{List}
 use native.Mathlib.Omega.{arith}
-use lib.ListN.{getD, set}
+use lib.ListN.{length, getD, set, length-set}
 use lib.Seq.{getD-set-other}
 use lib.IntN.{ℤ, pos}
 use Rattle.counts.specs.declared.Refusal.{Refusal}
@@ -55,6 +55,10 @@ module _ (k t : ℕ) (d : ℤ) (l : List ℤ) (i : ℕ) (at : i ≡ wordPlace k)
   in-not q f = rw (same ∙ f)
 
 -- ---- no other word is touched
+
+pub with-length : (i : ℕ) (v : Accumulator) (l : List ℤ) → length (withWords i v l) ≡ length l
+unfolding withWords
+with-length i v l = simp length-set
 
 pub with-other : (i j : ℕ) (v : Accumulator) (l : List ℤ) → (j < i ⊎ i + 2 < j) → getD (withWords i v l) j (pos 0) ≡ getD l j (pos 0)
 unfolding withWords

@@ -8,4 +8,5 @@ pub mod Calls
 pub mod Promise
 pub mod Picks
 pub mod Runs
+pub mod Gather
 pub mod Meaning

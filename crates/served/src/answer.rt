@@ -1,5 +1,6 @@
 // The calls by their numbers, but for the runs. Each group of calls has a file with `has`, which numbers it takes, and `answer`.
 use crate::accum_calls;
+use crate::fresh_call;
 use crate::head::Head;
 use crate::judge_call;
 use crate::reply::Reply;
@@ -16,6 +17,9 @@ pub fn has(call: u32) -> bool {
         return true;
     }
     if accum_calls::has(call) {
+        return true;
+    }
+    if fresh_call::has(call) {
         return true;
     }
     if sheet_call::has(call) {
@@ -43,6 +47,9 @@ pub fn answer(
     }
     if accum_calls::has(call) {
         return accum_calls::answer(head, links, axis, times, marks, accums);
+    }
+    if fresh_call::has(call) {
+        return fresh_call::answer(head, links, axis, times, marks);
     }
     if sheet_call::has(call) {
         return sheet_call::answer(sheet);

@@ -3,6 +3,7 @@ mod accum_calls;
 pub mod answer;
 pub mod contents;
 mod copying;
+mod fresh_call;
 pub mod head;
 mod judge_call;
 mod put;

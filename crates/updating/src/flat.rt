@@ -11,7 +11,7 @@ ghost use Rattle.counts.specs.Counts.{limit};
 ghost use Rattle.accumulator.specs.Flat.{wordsAt, withWords, updatedIn};
 
 // The accumulator whose words begin at this place.
-fn taken(words: &[i64], at: usize) -> Accumulator
+pub fn taken(words: &[i64], at: usize) -> Accumulator
     requires { ⌜ at + 3 ≤ length (now words) ⌝ }
     ensures { λ r. ⌜ r ≡ wordsAt at (now (words .entry)) ⌝ }
 {
@@ -22,7 +22,7 @@ fn taken(words: &[i64], at: usize) -> Accumulator
 }
 
 // The three words from this place on replaced.
-fn put(words: &mut [i64], at: usize, v: Accumulator)
+pub fn put(words: &mut [i64], at: usize, v: Accumulator)
     requires { ⌜ at + 3 ≤ length (now words) ⌝ }
     ensures { λ _. ⌜ now (words .exit) ≡ withWords at v (now (words .entry)) ⌝ }
 {

@@ -71,11 +71,14 @@ impl Stream {
         let mut call = call(rng, model, number, Manner::Wild);
         let (mut lent, mut sheet) = (Lent::default(), Vec::new());
         match number {
-            number::ACCUM | number::ACCUM_ALONE => accumulators(rng, model.time(), &mut call, &mut lent),
+            number::ACCUM | number::ACCUM_ALONE | number::ACCUM_IN_PLACE | number::ACCUM_BY_VALUE => {
+                accumulators(rng, model.time(), &mut call, &mut lent);
+            }
             _ if rng.chance(5) => sheet = by_the_way(rng, &mut lent),
             _ => {}
         }
-        let damaged = rng.chance(if number == number::JUDGE { 50 } else { 18 });
+        let often = matches!(number, number::JUDGE | number::FRESH_MODEL);
+        let damaged = rng.chance(if often { 50 } else { 18 });
         let (counts, note) = if damaged {
             let (class, damaged) = damage::any(rng, model);
             lent.tables = damaged.tables;
@@ -95,10 +98,11 @@ fn scrambled(rng: &mut Rng, lent: &mut Lent) -> &'static str {
 
 /// A list for accum, its number and its growth. One lent alone is the first of at least one.
 fn accumulators(rng: &mut Rng, time: u64, call: &mut Call, lent: &mut Lent) {
-    let numbered = call.number == number::ACCUM;
+    let numbered = matches!(call.number, number::ACCUM | number::ACCUM_IN_PLACE);
     let length = match rng.below(20) {
         0 if numbered => rng.pick(&[0, 65, 66, 80]),
         0..=2 => 64,
+        3..=5 => rng.between(1, 64) as usize,
         _ => rng.between(1, 6) as usize,
     };
     lent.accums = accums::list(rng, length, time);

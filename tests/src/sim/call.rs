@@ -33,6 +33,10 @@ pub mod number {
     pub const NEXTEV: u32 = 30;
     pub const ACCUM_ALONE: u32 = 31;
     pub const FINISH: u32 = 32;
+    /// As `ACCUM` and `ACCUM_ALONE`, but on the words in place and by value where those lend structs.
+    pub const ACCUM_IN_PLACE: u32 = 35;
+    pub const ACCUM_BY_VALUE: u32 = 36;
+    pub const FRESH_MODEL: u32 = 37;
     pub const RUN: u32 = 40;
     pub const CHECK: u32 = 41;
     pub const FRESH: u32 = 42;

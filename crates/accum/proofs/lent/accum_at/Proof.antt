@@ -31,7 +31,7 @@ use denote.Builtin.{u8, u32, u64, usize, i64}
 use denote.Ref.{RefT}
 use denote.Shadow.{pureI}
 use denote.Lend.{Held}
-use denote.Signature.{Slot, plain, shrSliceOf}
+use denote.Signature.{plain}
 use denote.Slice.{sliceVal, ShrSlice, MutSlice, heres, Room, slice-vals, shr-slice-tells, mut-slice-tells, shr-slice-lawful, at-slice, codedHoleys}
 use denote.Index.{place-is, elem-out, elem-put, opens-slice, closes-slice}
 use denote.Steps.{only, owned, peeks, heard, nothing}
@@ -43,7 +43,7 @@ use denote.Triple.Entry.{onEntry}
 use denote.Triple.Spec.{Meets, tripleOf}
 use denote.Triple.Table.{entered, cited}
 use denote.Triple.Clauses.{ensured, lasts}
-use denote.Triple.Walked.{says, Stays, stay-slice, stay-dropped, walkOf, AllGo, Goes, Silent, goes-dropped, goes-slice, Walks, ends-at, walked, walk-meets}
+use denote.Triple.Walked.{says, Stays, stay-slice, stay-dropped, walkOf, AllGo, goes-slice, Walks, ends-at, walked, walk-meets}
 use denote.Exit.{yes}
 use borrow.Author.Needs.{scaled-fits}
 use Rattle.counts.specs.Counts.{limit}
@@ -62,7 +62,7 @@ use Rattle.accumulator.specs.declared.Kept as kept-declared
 use Rattle.accumulator.specs.declared.Picked as picked-declared
 use Rattle.accumulator.proofs.Accumulator as T
 use Rattle.accumulator.proofs.Accumulator.Laws as T′
-use Rattle.accum.proofs.Walking.{mach, mach-counts, mach-answer, four, five, tokens-out, tokens-in, early, held, failed}
+use Rattle.accum.proofs.Walking.{mach, mach-counts, mach-answer, mach-slice, value-is, answer-is, four, five, tokens-out, tokens-in, gone, tables-gone, early, held, failed}
 use Rattle.accumulator.proofs.Kept as U
 use Rattle.accumulator.proofs.Kept.Laws as U′
 use Rattle.accumulator.proofs.Picked as P
@@ -99,12 +99,6 @@ module _ {M : Type 1} (𝓤 : URA M) (H : Heap 𝓤) (A : Atoms 𝓤) (at-mem : 
   Step = tripleOf 𝓤 H A step.signature (step.spec 𝓤 H A at-mem run)
 
 -- what holding a struct tells of its fields
-value-is : (r : Kept) (vs : List Val) → Is U.the-row r vs → Is T.the-row (r .value) (mach (r .value) ∷ [])
-value-is r vs is = LL.owed U.the-type U′.the-laws r vs is .0
-
-answer-is : (r : Kept) (vs : List Val) → Is U.the-row r vs → Is An.the-row (r .answer) (mach-answer (r .answer) ∷ [])
-answer-is r vs is = LL.owed U.the-type U′.the-laws r vs is .1 .0
-
 refusal-is : (p : Picked) (vs : List Val) → Is P.the-row p vs → Is An.the-row (p .answer) (mach-answer (p .answer) ∷ [])
 refusal-is p vs is = LL.owed P.the-type P′.the-laws p vs is .1 .1 .1 .0
 
@@ -118,22 +112,10 @@ module _ {M : Type 1} (𝓤 : URA M) (H : Heap 𝓤) (A : Atoms 𝓤) (W : Given
   qs = (q₀, (q₁, (q₂, (q₃, (q₄, tt)))))
 
   abbrev all-toks : Item 𝓤
-  all-toks = five 𝓤 κ₀ κ₁ κ₂ κ₃ κ₄ q₀ q₁ q₂ q₃ q₄
+  all-toks = five 𝓤 κ₀ κ₁ κ₂ κ₃ q₀ q₁ q₂ q₃ κ₄ q₄
 
   abbrev tables-toks : Item 𝓤
-  tables-toks = four 𝓤 κ₀ κ₁ κ₂ κ₃ κ₄ q₀ q₁ q₂ q₃ q₄
-
-  abbrev v₁ : Val
-  v₁ = sliceVal (s₁ .ptr) (length (s₁ .now))
-
-  abbrev v₂ : Val
-  v₂ = sliceVal (s₂ .ptr) (length (s₂ .now))
-
-  abbrev v₃ : Val
-  v₃ = sliceVal (s₃ .ptr) (length (s₃ .now))
-
-  abbrev v₄ : Val
-  v₄ = sliceVal (s₄ .ptr) (length (s₄ .now))
+  tables-toks = four 𝓤 κ₀ κ₁ κ₂ κ₃ q₀ q₁ q₂ q₃
 
   -- the list
   abbrev s : Val
@@ -152,7 +134,7 @@ module _ {M : Type 1} (𝓤 : URA M) (H : Heap 𝓤) (A : Atoms 𝓤) (W : Given
       qs,
       tt,
       (c, (s₁, (s₂, (s₃, (s₄, (record { ptr = (b, o); name = γ; now = ys }, (k, (d, tt)))))))),
-      (mach-counts c ∷ [], (v₁ ∷ [], (v₂ ∷ [], (v₃ ∷ [], (v₄ ∷ [], (s ∷ [], (vint w32 k ∷ [], (vd ∷ [], tt)))))))),
+      (mach-counts c ∷ [], (mach-slice s₁ ∷ [], (mach-slice s₂ ∷ [], (mach-slice s₃ ∷ [], (mach-slice s₄ ∷ [], (s ∷ [], (vint w32 k ∷ [], (vd ∷ [], tt)))))))),
     ),
     tt,
   )
@@ -168,7 +150,7 @@ module _ {M : Type 1} (𝓤 : URA M) (H : Heap 𝓤) (A : Atoms 𝓤) (W : Given
       (q₀, (q₁, (q₂, (q₃, tt)))),
       tt,
       (c, (s₁, (s₂, (s₃, (s₄, (length ys, (k, tt))))))),
-      (mach-counts c ∷ [], (v₁ ∷ [], (v₂ ∷ [], (v₃ ∷ [], (v₄ ∷ [], (vint w64 (length ys) ∷ [], (vint w32 k ∷ [], tt))))))),
+      (mach-counts c ∷ [], (mach-slice s₁ ∷ [], (mach-slice s₂ ∷ [], (mach-slice s₃ ∷ [], (mach-slice s₄ ∷ [], (vint w64 (length ys) ∷ [], (vint w32 k ∷ [], tt))))))),
     ),
     tt,
   )
@@ -198,7 +180,7 @@ module _ {M : Type 1} (𝓤 : URA M) (H : Heap 𝓤) (A : Atoms 𝓤) (W : Given
   exits zs same w is e =
       qed W (‵ (fobs γ (codedHoleys T.the-row .code (heres T.the-row zs))) ∷ ‵ (fbor κ₄ (Held T.the-row (length zs) b o γ)) ∷ ‵ (flft κ₄ q₄) ∷ tables-toks ∷ []) ∵
       suffices ! _ (ends-at 𝓤 H A this.ended stayed (this.clauses 𝓤 H A at-mem run) W bound (mach-answer w) w (tt, (tt, (tt, (tt, (tt, (zs, (tt, (tt, tt)))))))) (tt, (tt, (tt, (tt, (tt, (same, (tt, (tt, tt))))))))) $
-      says ! e $ move ! (3 ∷ 2 ∷ []) $ use2 W all-toks (tokens-in 𝓤 κ₀ κ₁ κ₂ κ₃ κ₄ q₀ q₁ q₂ q₃ q₄ H A W) $ frame ! $
+      says ! e $ move ! (3 ∷ 2 ∷ []) $ use2 W all-toks (tokens-in 𝓤 κ₀ κ₁ κ₂ κ₃ q₀ q₁ q₂ q₃ κ₄ q₄ H A W) $ frame ! $
       fjoin ! $ pureI ! (at-slice T.the-row (record { ptr = (b, o); name = γ; now = zs }) (s ∷ [])) (tt, (tt, tt))
       (ap (λ (m : ℕ). sliceVal (b, o) m ∷ []) (sym same), subst (Room T.the-row) (sym same) room) $ fjoin ! $
       nothing ! $ nothing ! $ fjoin ! $ nothing ! $ fjoin ! $ move ! (1 ∷ 0 ∷ []) $ fjoin ! $
@@ -206,20 +188,20 @@ module _ {M : Type 1} (𝓤 : URA M) (H : Heap 𝓤) (A : Atoms 𝓤) (W : Given
       owned ! An.the-row (Is An.the-row) (EL.makes An.the-type An′.the-plain 𝓤 H A) w _ is $ move ! (1 ∷ 0 ∷ []) $ done !
 
   module _ (C : Calls 𝓤 H) (Λ : Loops 𝓤 H) (fm : FmC 𝓤 H (W .laws) C) (known-pick : Triple 𝓤 (C #pick) (Picks 𝓤 H A at-mem run)) (known-step : Triple 𝓤 (C #step) (Step 𝓤 H A at-mem run)) where
-    walk : Is Co.the-row c (mach-counts c ∷ []) → Is (ShrSlice (named 0) κ₀ u32) s₁ (v₁ ∷ []) → Is (ShrSlice (named 1) κ₁ u32) s₂ (v₂ ∷ []) → Is (ShrSlice (named 2) κ₂ u64) s₃ (v₃ ∷ []) → Is (ShrSlice (named 3) κ₃ u8) s₄ (v₄ ∷ [])
-        → ent 𝓤 (onEntry 𝓤 H A this.signature κs qs (bound .0 .3) (bound .0 .4)) (WpFn 𝓤 H C Λ code.function (mach-counts c ∷ v₁ ∷ v₂ ∷ v₃ ∷ v₄ ∷ s ∷ vint w32 k ∷ vd ∷ []) Post)
+    walk : Is Co.the-row c (mach-counts c ∷ []) → Is (ShrSlice (named 0) κ₀ u32) s₁ (mach-slice s₁ ∷ []) → Is (ShrSlice (named 1) κ₁ u32) s₂ (mach-slice s₂ ∷ []) → Is (ShrSlice (named 2) κ₂ u64) s₃ (mach-slice s₃ ∷ []) → Is (ShrSlice (named 3) κ₃ u8) s₄ (mach-slice s₄ ∷ [])
+        → ent 𝓤 (onEntry 𝓤 H A this.signature κs qs (bound .0 .3) (bound .0 .4)) (WpFn 𝓤 H C Λ code.function (mach-counts c ∷ mach-slice s₁ ∷ mach-slice s₂ ∷ mach-slice s₃ ∷ mach-slice s₄ ∷ s ∷ vint w32 k ∷ vd ∷ []) Post)
     walk pc p₁ p₂ p₃ p₄ =
         qed W (all-toks ∷ ‵ (owns (Co.the-row ∷ ShrSlice (named 0) κ₀ u32 ∷ ShrSlice (named 1) κ₁ u32 ∷ ShrSlice (named 2) κ₂ u64 ∷ ShrSlice (named 3) κ₃ u8 ∷ MutSlice (named 4) κ₄ T.the-row ∷ u32 ∷ i64 ∷ []) (bound .0 .3) (bound .0 .4)) ∷ []) ∵
-        enter ! C Λ code.function (mach-counts c ∷ v₁ ∷ v₂ ∷ v₃ ∷ v₄ ∷ s ∷ vint w32 k ∷ vd ∷ []) _ $
+        enter ! C Λ code.function (mach-counts c ∷ mach-slice s₁ ∷ mach-slice s₂ ∷ mach-slice s₃ ∷ mach-slice s₄ ∷ s ∷ vint w32 k ∷ vd ∷ []) _ $
         alloc1 ! (λ l₀. alloc1 ! (λ l₁. alloc1 ! (λ l₂. alloc1 ! (λ l₃. alloc1 ! (λ l₄. alloc1 ! (λ l₅. alloc1 ! (λ l₆. alloc1 ! (λ l₇. alloc1 ! (λ l₈. alloc1 ! (λ l₉. alloc1 ! (λ l₁₀. alloc1 ! (λ l₁₁. alloc1 ! (λ l₁₂. alloc1 ! (λ l₁₃. alloc1 ! (λ l₁₄. alloc1 ! (λ l₁₅. alloc0 ! $ params1 ! $
         pass1 ! (init ! 28 refl (LL.lawful Co.the-type Co′.the-laws 𝓤 H A W .typed c _ pc .0)) $
-        pass1 ! (init ! 26 refl (shr-slice-lawful 𝓤 H A W (named 0) κ₀ u32 .typed s₁ (v₁ ∷ []) p₁ .0)) $ pass1 ! (init ! 24 refl (shr-slice-lawful 𝓤 H A W (named 1) κ₁ u32 .typed s₂ (v₂ ∷ []) p₂ .0)) $
-        pass1 ! (init ! 22 refl (shr-slice-lawful 𝓤 H A W (named 2) κ₂ u64 .typed s₃ (v₃ ∷ []) p₃ .0)) $ pass1 ! (init ! 20 refl (shr-slice-lawful 𝓤 H A W (named 3) κ₃ u8 .typed s₄ (v₄ ∷ []) p₄ .0)) $
+        pass1 ! (init ! 26 refl (shr-slice-lawful 𝓤 H A W (named 0) κ₀ u32 .typed s₁ (mach-slice s₁ ∷ []) p₁ .0)) $ pass1 ! (init ! 24 refl (shr-slice-lawful 𝓤 H A W (named 1) κ₁ u32 .typed s₂ (mach-slice s₂ ∷ []) p₂ .0)) $
+        pass1 ! (init ! 22 refl (shr-slice-lawful 𝓤 H A W (named 2) κ₂ u64 .typed s₃ (mach-slice s₃ ∷ []) p₃ .0)) $ pass1 ! (init ! 20 refl (shr-slice-lawful 𝓤 H A W (named 3) κ₃ u8 .typed s₄ (mach-slice s₄ ∷ []) p₄ .0)) $
         pass1 ! (init ! 18 refl (tt, (tt, (record { fits = room .0 }, tt)))) $ pass1 ! (init ! 16 refl (tt, record { fits = k-fits })) $ pass1 ! (init ! 14 refl (sint-lawful 𝓤 H A W w64 .typed d _ (refl, d-fits) .0)) $ pass0 ! $
         -- what is owned, one by one
         move ! (33 ∷ []) $ fsplit ! $ move ! (1 ∷ []) $ fsplit ! $ move ! (1 ∷ []) $ fsplit ! $ move ! (1 ∷ []) $ fsplit ! $ move ! (1 ∷ []) $ fsplit ! $ move ! (1 ∷ []) $ fsplit ! $ fsplit3 ! $ drop ! $ move ! (2 ∷ []) $ drop ! $
         -- [obs; the borrow; marks; times; axis; links; c; _15; …; _0; …; the tokens]
-        move ! (39 ∷ []) $ use1 W (tables-toks ⊛ ‵ (flft κ₄ q₄)) (tokens-out 𝓤 κ₀ κ₁ κ₂ κ₃ κ₄ q₀ q₁ q₂ q₃ q₄ H A W) $ split ! $
+        move ! (39 ∷ []) $ use1 W (tables-toks ⊛ ‵ (flft κ₄ q₄)) (tokens-out 𝓤 κ₀ κ₁ κ₂ κ₃ q₀ q₁ q₂ q₃ κ₄ q₄ H A W) $ split ! $
         -- [four tokens; the list's; obs; the borrow; marks; times; axis; links; c; _15; …; _0; …]
         assigns ! (of-opd ! (load ! (from ! (fld ! refl (stop !))) (look-in ! 27 (sub ! 1 refl (whole !))))) (from ! (stop !)) (init ! 17 refl (tt, record { fits = room .0 })) $
         nothing ! $ owned ! u32 (Is u32) (uint-makes 𝓤 H A W w32) k _ (refl, k-fits) $ fjoin ! $ owned ! usize (Is usize) (uint-makes 𝓤 H A W w64) (length ys) _ (refl, room .0) $ fjoin ! $
@@ -290,25 +272,11 @@ module _ {M : Type 1} (𝓤 : URA M) (H : Heap 𝓤) (A : Atoms 𝓤) (W : Given
       (are .1 .1 .1 .1 .1 .0 .0 .1) (are .1 .1 .1 .1 .1 .1 .0 .1) (are .1 .1 .1 .1 .1 .1 .1 .0 .1) C Λ fm known-pick known-step (are .0) (are .1 .0) (are .1 .1 .0) (are .1 .1 .1 .0) (are .1 .1 .1 .1 .0)))
 
   goes : AllGo 𝓤 H A W 5 (this.signature .params) (this.ended .kept) stayed
-  goes = (
-    gone (plain (λ _. Co.the-row)) (λ κs x f. refl),
-    (
-      gone (shrSliceOf (0 ∷ []) tt (plain (λ _. u32))) (λ κs x f. refl),
-      (
-        gone (shrSliceOf (1 ∷ []) tt (plain (λ _. u32))) (λ κs x f. refl),
-        (
-          gone (shrSliceOf (2 ∷ []) tt (plain (λ _. u64))) (λ κs x f. refl),
-          (
-            gone (shrSliceOf (3 ∷ []) tt (plain (λ _. u8))) (λ κs x f. refl),
-            (goes-slice 𝓤 H A W 5 4 tt (plain (λ _. T.the-row)), (gone (plain (λ _. u32)) (λ κs x f. refl), (gone (plain (λ _. i64)) (λ κs x f. refl), tt))),
-          ),
-        ),
-      ),
-    ),
-  )
-    where
-      gone : (s : Slot 5) → Silent 𝓤 H A W 5 s yes → Goes 𝓤 H A W 5 s yes (stay-dropped s yes)
-      gone s = goes-dropped 𝓤 H A W 5 s yes
+  goes =
+      tables-gone 𝓤 H A W 5 tt tt tt tt (
+        goes-slice 𝓤 H A W 5 4 tt (plain (λ _. T.the-row)),
+        (gone 𝓤 H A W 5 (plain (λ _. u32)) (λ κs x f. refl), (gone 𝓤 H A W 5 (plain (λ _. i64)) (λ κs x f. refl), tt)),
+      )
 
 at-meets : {M : Type 1} (𝓤 : URA M) (H : Heap 𝓤) (A : Atoms 𝓤) → Given 𝓤 H A → (at-mem : Memory → SProp 𝓤) (run : Routine → Fun 𝓤) (𝓣 : Tables 𝓤 H) → Triple 𝓤 (𝓣 .C #pick) (Picks 𝓤 H A at-mem run) → Triple 𝓤 (𝓣 .C #step) (Step 𝓤 H A at-mem run)
     → Meets 𝓤 H A this.signature (WpFn 𝓤 H (𝓣 .C) (𝓣 .Λ) code.function) (this.spec 𝓤 H A at-mem run)

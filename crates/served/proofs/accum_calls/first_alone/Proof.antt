@@ -7,17 +7,17 @@ use Rattle.served.proofs.accum_calls.first_alone.Tie as tie
 returns : tie.Need-returns
 returns c = search needs
 
+slice-copy-out-t18 : tie.Need-slice-copy-out-t18
+slice-copy-out-t18 c = search needs
+
 slice-copy-out-t20 : tie.Need-slice-copy-out-t20
 slice-copy-out-t20 c = search needs
 
 slice-copy-out-t22 : tie.Need-slice-copy-out-t22
 slice-copy-out-t22 c = search needs
 
-slice-copy-out-t24 : tie.Need-slice-copy-out-t24
-slice-copy-out-t24 c = search needs
-
-accum-alone-requires : tie.Need-accum-alone-requires
-accum-alone-requires c κs = search needs
+alone-requires : tie.Need-alone-requires
+alone-requires c κs = search needs
 
 slice-set-from-sum : tie.Need-slice-set-from-sum
 slice-set-from-sum c = search needs
@@ -39,10 +39,10 @@ first-alone-spec =
     tie.close
     (tie.spec
     returns
+    slice-copy-out-t18
     slice-copy-out-t20
     slice-copy-out-t22
-    slice-copy-out-t24
-    accum-alone-requires
+    alone-requires
     slice-set-from-sum
     slice-set-from-since
     slice-set-from-rate
