@@ -113,7 +113,8 @@ module _ (n i : ℕ) (xs : List Accumulator) (l : List ℤ) (c : Copied n i xs l
     room = omega (arith, d, c .room);
     words = e ∙ c .words;
     are = ap (λ (j : ℕ). flat (take j ys)) (sym (one-more i)) ∙ ap flat p ∙ flat-append (take i xs) (v ∷ [])
-        ∙ ap (λ (w : List ℤ). w ++ flat (v ∷ [])) (c .are) ∙ sym q ∙ ap (λ (j : ℕ). take j m) (next-three i ∙ ap (λ (j : ℕ). 3 * j) (one-more i));
+        ∙ ap (λ (w : List ℤ). w ++ flat (v ∷ [])) (c .are) ∙ sym q
+        ∙ ap (λ (j : ℕ). take j m) (next-three i ∙ ap (λ (j : ℕ). 3 * j) (one-more i));
   }
 
   -- from words to structs
@@ -169,4 +170,5 @@ module _ (c : Counts) (t : Tables) (n k : ℕ) (d : ℤ) (l : List ℤ) (ok : Bo
         → (v : List ℤ) → v ≡ flat ys → record { words = v; answer = r } ≡ accumListed c t n k d l
     listed-lent ys r e x p v z =
         ap (λ (u : List ℤ). record { words = u; answer = r }) z ∙ ap flattened (p ∙ ap (λ (y : ℤ). accumAt c t k y xs) x)
-        ∙ sym (listed-flat c t k d xs) ∙ ap (λ (u : List ℤ). accumListed c t (length xs) k d u) q ∙ ap (λ (j : ℕ). accumListed c t j k d l) same-count
+        ∙ sym (listed-flat c t k d xs) ∙ ap (λ (u : List ℤ). accumListed c t (length xs) k d u) q
+        ∙ ap (λ (j : ℕ). accumListed c t j k d l) same-count

@@ -1,6 +1,6 @@
--- What the calls of accum mean, for every well-formed model: the update at the model's time, by value, on a number of a flat list, and on a
--- number of a list of structs; 1 exactly for a list that is not as said, 3 exactly for a number that is not in it. And on any tables a refused
--- call changes no word.
+-- What the calls of accum mean, for every well-formed model: the update at the model's time, by value, on a number of a flat list, and on
+-- a number of a list of structs; 1 exactly for a list that is not as said, 3 exactly for a number that is not in it. And on any tables a
+-- refused call changes no word.
 use Prim.Native.Nat.{ℕ, _-_}
 use mathlib.Core.Path.{_≡_, refl, ap, _∙_}
 use mathlib.Core.Bool.{Bool, true, false}
@@ -51,7 +51,8 @@ module _ (c : Counts) (l : Lists) (t : Tables) (w : Sized c t) (s : Spells c l t
 
   -- number k of n in a flat list
   pub listed-means : (n k : ℕ) (d : ℤ) (words : List ℤ)
-      → accumListed c t n k d words ≡ changing (listVerdict (listFine n (length words)) (numberFine n k)) words (updatedIn k (time l) d words)
+      → accumListed c t n k d words ≡ changing (listVerdict (listFine n (length words)) (numberFine n k)) words
+      (updatedIn k (time l) d words)
   unfolding accumListed
   listed-means n k d words =
       ap (λ (v : Verdict). changing v words (updatedIn k (timeOf (half c) (t .axis) (t .times)) d words)) (list-is _ _)
@@ -59,7 +60,8 @@ module _ (c : Counts) (l : Lists) (t : Tables) (w : Sized c t) (s : Spells c l t
 
   -- number k of a list of structs, as it is lent
   pub at-means : (k : ℕ) (d : ℤ) (list : List Accumulator)
-      → accumAt c t k d list ≡ listing (listVerdict (countFine (length list)) (numberFine (length list) k)) list (updatedAt k (time l) d list)
+      → accumAt c t k d list ≡ listing (listVerdict (countFine (length list)) (numberFine (length list) k)) list
+      (updatedAt k (time l) d list)
   unfolding accumAt
   at-means k d list =
       ap (λ (v : Verdict). listing v list (updatedAt k (timeOf (half c) (t .axis) (t .times)) d list)) (list-is _ _)
@@ -80,9 +82,11 @@ module _ (c : Counts) (t : Tables) (r : Refusal) where
   pub listed-kept : (n k : ℕ) (d : ℤ) (l : List ℤ) → accumListed c t n k d l .answer ≡ Turned r → accumListed c t n k d l .words ≡ l
   unfolding accumListed updatedIn
   listed-kept n k d l e =
-      go (listJudged (listFine n (length l)) (numberFine n k) c t) (updatedOf (wordsAt (wordPlace k) l) (timeOf (half c) (t .axis) (t .times)) d) e
+      go (listJudged (listFine n (length l)) (numberFine n k) c t)
+      (updatedOf (wordsAt (wordPlace k) l) (timeOf (half c) (t .axis) (t .times)) d) e
     where
-      go : (v : Verdict) (u : Updated) → changing v l (stored u (wordPlace k) l) .answer ≡ Turned r → changing v l (stored u (wordPlace k) l) .words ≡ l
+      go : (v : Verdict) (u : Updated) → changing v l (stored u (wordPlace k) l) .answer ≡ Turned r
+          → changing v l (stored u (wordPlace k) l) .words ≡ l
       go Fine (To y) q = let z : false ≡ true = cc in clash z
       go Fine (Refused p) q = refl
       go (Judged p) u q = refl
@@ -90,7 +94,8 @@ module _ (c : Counts) (t : Tables) (r : Refusal) where
   pub at-kept : (k : ℕ) (d : ℤ) (l : List Accumulator) → accumAt c t k d l .answer ≡ Turned r → accumAt c t k d l .list ≡ l
   unfolding accumAt updatedAt
   at-kept k d l e =
-      go (listJudged (countFine (length l)) (numberFine (length l) k) c t) (updatedOf (numbered k l) (timeOf (half c) (t .axis) (t .times)) d) e
+      go (listJudged (countFine (length l)) (numberFine (length l) k) c t)
+      (updatedOf (numbered k l) (timeOf (half c) (t .axis) (t .times)) d) e
     where
       go : (v : Verdict) (u : Updated) → listing v l (listAfter u k l) .answer ≡ Turned r → listing v l (listAfter u k l) .list ≡ l
       go Fine (To y) q = let z : false ≡ true = cc in clash z

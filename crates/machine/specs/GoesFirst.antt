@@ -45,7 +45,8 @@ line-current s m l k =
     (go (perform (s .counts) (callNow s m) m))
   where
     go : (r : Result Machine)
-        → Then (λ j. stepped (lineNow s m) (withPosition (s .counts) j (current (m .lists)) (nextNow s m)) ≡ stepped l k → l .process ≡ current (m .lists)) r
+        → Then (λ j. stepped (lineNow s m) (withPosition (s .counts) j (current (m .lists))
+        (nextNow s m)) ≡ stepped l k → l .process ≡ current (m .lists)) r
     go (refused r) = tt
     go (done j) = λ q. let e : lineNow s m ≡ l = cc in ap (λ (x : Line). x .process) (sym e)
 

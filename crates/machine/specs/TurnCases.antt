@@ -17,11 +17,13 @@ Then Q (done m) = Q m
 
 -- it comes to an end, or to what its call leaves
 pub turn-cases : (s : Sheet) (m : Machine) (Q : Turn → Type 0) → ((e : End) → Q (ended e))
-    → Then (λ k. Q (stepped (lineNow s m) (withPosition (s .counts) k (current (m .lists)) (nextNow s m)))) (perform (s .counts) (callNow s m) m)
+    → Then (λ k. Q (stepped (lineNow s m) (withPosition (s .counts) k (current (m .lists)) (nextNow s m))))
+    (perform (s .counts) (callNow s m) m)
     → Q (turn s 1 m)
 unfolding turn step
 turn-cases s m Q f g = test (atEnd s m) (λ e. rw e (f Finished)) (λ e. rw e (go (perform (s .counts) (callNow s m) m) g))
   where
-    go : (r : Result Machine) → Then (λ k. Q (stepped (lineNow s m) (withPosition (s .counts) k (current (m .lists)) (nextNow s m)))) r → Q (moving s m r)
+    go : (r : Result Machine) → Then (λ k. Q (stepped (lineNow s m) (withPosition (s .counts) k (current (m .lists)) (nextNow s m)))) r
+        → Q (moving s m r)
     go (refused r) h = f (Refused r)
     go (done k) h = h

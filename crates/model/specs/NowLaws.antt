@@ -19,7 +19,18 @@ use Rattle.model.specs.Now.{first, current, time, half, firstOf, timeOf}
 use Rattle.model.specs.AxisJudged.{axis-head}
 use Rattle.model.specs.Formed.{notice-process}
 
-first-next : (c : Counts) (S P : ℕ → ℕ) (h e : ℕ) (ns : List Notice) → 0 < length ns → Chain S P h (places c ns) e → S h ≡ first ns .who - c .heads
+-- a list with a notice is its first and the rest
+pub record Split (ns : List Notice) : Type 0 where
+  pub head : Notice
+  pub rest : List Notice
+  pub is : ns ≡ head ∷ rest
+
+pub splits : (ns : List Notice) → 0 < length ns → Split ns
+splits [] l = absurd (not-suc-le-zero l)
+splits (n ∷ k) l = record { head = n; rest = k; is = refl }
+
+first-next : (c : Counts) (S P : ℕ → ℕ) (h e : ℕ) (ns : List Notice) → 0 < length ns → Chain S P h (places c ns) e
+    → S h ≡ first ns .who - c .heads
 first-next c S P h e [] s ch = absurd (not-suc-le-zero s)
 first-next c S P h e (n ∷ ns) s ch = ch .0 .next
 
@@ -28,7 +39,8 @@ first-due [] s = absurd (not-suc-le-zero s)
 first-due (n ∷ ns) s = rw (eq-eqb (n .who) (n .who) refl)
 
 first-process : (c : Counts) (ns : List Notice) → 0 < length ns
-    → ((x : ℕ) → In x (whos ns) → (c .heads < x) × (x ≤ c .heads + c .processes)) → (c .heads < first ns .who) × (first ns .who ≤ c .heads + c .processes)
+    → ((x : ℕ) → In x (whos ns) → (c .heads < x) × (x ≤ c .heads + c .processes))
+    → (c .heads < first ns .who) × (first ns .who ≤ c .heads + c .processes)
 first-process c [] s f = absurd (not-suc-le-zero s)
 first-process c (n ∷ ns) s f = f (n .who) (inl refl)
 
@@ -51,6 +63,7 @@ module _ (c : Counts) (l : Lists) (t : Tables) (s : Spells c l t) where
       let p = current-process in
       let back : c .heads + (current l - c .heads) ≡ current l = omega (arith, p) in
       ap (λ (i : ℕ). getD (t .times) i 0) place-now
-      ∙ table-at (λ p. dueOf (c .heads + p) (l .notices)) (c .processes) (t .times) (s .times) (current l - c .heads) (omega (arith, p)) (omega (arith, p))
+      ∙ table-at (λ p. dueOf (c .heads + p) (l .notices)) (c .processes) (t .times) (s .times) (current l - c .heads) (omega (arith, p))
+      (omega (arith, p))
       ∙ ap (λ (x : ℕ). dueOf x (l .notices)) back
       ∙ first-due (l .notices) (s .some)

@@ -1,4 +1,4 @@
--- Members and distinct lists in the library's words. `In` and `Dist` compute to sums and pairs, which the laws here take apart; the library's
+-- Members and distinct lists in the library's words. `In` and `Dist` compute to sums and pairs, which laws take apart; the library's
 -- membership is a proposition, which gives no place. They say the same.
 use Prim.Native.Nat.{ℕ}
 use mathlib.Core.Logic.{inl, inr, Or·elim}

@@ -48,7 +48,8 @@ pub record Demand3 (bytes : List ℕ) (buffers : List (List ℕ)) : Type 0 where
   -- the fresh run is the fresh machine's
   pub begins : Stands (countsOf bytes) (recordsOf bytes) (fresh (sheetOf bytes)) (freshRun (countsOf bytes) bytes)
   -- "every line, every answer and the model after .. equal those of document 01's plain machine"
-  pub agree : AllAgree bytes buffers (calls (sheetOf bytes) (fresh (sheetOf bytes)) (lengths buffers)) (runs bytes (freshRun (countsOf bytes) bytes) buffers)
+  pub agree : AllAgree bytes buffers (calls (sheetOf bytes) (fresh (sheetOf bytes)) (lengths buffers))
+      (runs bytes (freshRun (countsOf bytes) bytes) buffers)
   -- "All lines joined are the first of a machine never cut", and the machine after the calls is that one's
   pub joined-lines : Joined (sheetOf bytes) (fresh (sheetOf bytes)) (lengths buffers)
   -- that machine, after any number of steps: "No link stands twice in the sets, no process has two notices, and no step takes time back",
@@ -92,7 +93,8 @@ pub record WhichFirst (s : Sheet) (n a b : ℕ) : Type 0 where
   -- and to stand before is to go first
   pub goes-first : GoesFirst s n
 
-pub which-first : (bytes : List ℕ) → accepted bytes ≡ true → (n a b : ℕ) → In a (whos (noticesAt (sheetOf bytes) n)) → In b (whos (noticesAt (sheetOf bytes) n))
+pub which-first : (bytes : List ℕ) → accepted bytes ≡ true → (n a b : ℕ) → In a (whos (noticesAt (sheetOf bytes) n))
+    → In b (whos (noticesAt (sheetOf bytes) n))
     → scheduled (sheetOf bytes) n a .by < scheduled (sheetOf bytes) n b .by → WhichFirst (sheetOf bytes) n a b
 which-first bytes ok n a b i j l = let w = machine-laws bytes ok n in record { tie = w .ties .tie a b i j l; goes-first = w .goes-first }
 
@@ -101,6 +103,12 @@ pub stands-once : (bytes : List ℕ) → accepted bytes ≡ true → (n : ℕ) �
 stands-once bytes ok n = dist-nodup (joined (state (sheetOf bytes) n .lists .sets)) (machine-laws bytes ok n .kept .links-once)
 
 -- and tables that spell a machine are the only ones: two runs that are one machine's have the same words
-pub one-model : (bytes : List ℕ) (m : Machine) (u v : RunTables) → Stands (countsOf bytes) (recordsOf bytes) m u → Stands (countsOf bytes) (recordsOf bytes) m v
+pub one-model : (bytes : List ℕ) (m : Machine) (u v : RunTables) → Stands (countsOf bytes) (recordsOf bytes) m u
+    → Stands (countsOf bytes) (recordsOf bytes) m v
     → (u .model ≡ v .model) × (u .positions ≡ v .positions) × (u .words ≡ v .words)
-one-model bytes m u v g h = (tables-only (countsOf bytes) (m .lists) (u .model) (v .model) (g .model) (h .model), g .positions ∙ sym (h .positions), g .words ∙ sym (h .words))
+one-model bytes m u v g h = (
+  tables-only (countsOf bytes) (m .lists) (u .model) (v .model) (g .model) (h .model),
+  g .positions ∙ sym
+      (h .positions),
+  g .words ∙ sym (h .words),
+)

@@ -72,11 +72,13 @@ module _ (c : Counts) (bytes : List ℕ) (i : ℕ) (u : RunTables) (tr : List �
   abbrev after : Turned → Stepped
   after d = moved d its (u .positions) (firstOf (half c) (u .model .axis)) tr i (lineIn c u)
 
-  pub step-kept : (r : Refusal) → stepOn c bytes i u tr .turned ≡ Off r → (stepOn c bytes i u tr .run ≡ u) × (stepOn c bytes i u tr .trace ≡ tr)
+  pub step-kept : (r : Refusal) → stepOn c bytes i u tr .turned ≡ Off r
+      → (stepOn c bytes i u tr .run ≡ u) × (stepOn c bytes i u tr .trace ≡ tr)
   unfolding stepOn
   step-kept r e = go (turnedOf (its .answer) (dueIn c bytes u .next)) refl e
     where
-      go : (d : Turned) → turnedOf (its .answer) (dueIn c bytes u .next) ≡ d → after d .turned ≡ Off r → (after d .run ≡ u) × (after d .trace ≡ tr)
+      go : (d : Turned) → turnedOf (its .answer) (dueIn c bytes u .next) ≡ d → after d .turned ≡ Off r
+          → (after d .run ≡ u) × (after d .trace ≡ tr)
       go (On next) q p = let z : false ≡ true = cc in clash z
       go (Off s) q p =
           let k = call-kept c (callDue (dueIn c bytes u)) (u .model) (u .words) s (turned-off (its .answer) (dueIn c bytes u .next) s q) in
@@ -98,7 +100,8 @@ module _ (c : Counts) (bytes : List ℕ) where
       (λ e. rw e (omega arith))
       (λ e. rw e (go (stepOn c bytes (16 * n) u tr .turned) (turns-lines (suc n) k (stepOn c bytes (16 * n) u tr .run) (stepOn c bytes (16 * n) u tr .trace))))
     where
-      go : (d : Turned) → suc n ≤ turnsOn c bytes (suc n) k (stepOn c bytes (16 * n) u tr .run) (stepOn c bytes (16 * n) u tr .trace) .result .lines
+      go : (d : Turned) → suc n ≤ turnsOn c bytes (suc n) k (stepOn c bytes (16 * n) u tr .run)
+          (stepOn c bytes (16 * n) u tr .trace) .result .lines
           → n ≤ goes n k (stepOn c bytes (16 * n) u tr) d .result .lines
       go (On next) l = omega arith
       go (Off r) l = omega arith
@@ -115,7 +118,8 @@ module _ (c : Counts) (bytes : List ℕ) where
       (λ e. rw e (go (stepOn c bytes (16 * 0) u tr .turned) refl))
     where
       go : (d : Turned) → stepOn c bytes (16 * 0) u tr .turned ≡ d
-          → goes 0 k (stepOn c bytes (16 * 0) u tr) d .result .lines ≡ 0 → goes 0 k (stepOn c bytes (16 * 0) u tr) d .result .end ≡ Refused r
+          → goes 0 k (stepOn c bytes (16 * 0) u tr) d .result .lines ≡ 0
+          → goes 0 k (stepOn c bytes (16 * 0) u tr) d .result .end ≡ Refused r
           → (goes 0 k (stepOn c bytes (16 * 0) u tr) d .run ≡ u) × (goes 0 k (stepOn c bytes (16 * 0) u tr) d .trace ≡ tr)
       go (On next) q a b = absurd (some a)
         where
@@ -124,7 +128,8 @@ module _ (c : Counts) (bytes : List ℕ) where
       go (Off s) q a b = step-kept c bytes (16 * 0) u tr s q
 
 -- a run call that was refused and wrote no line
-pub run-kept : (bytes : List ℕ) (u : RunTables) (tr : List ℕ) (r : Refusal) → runOn bytes u tr .result .lines ≡ 0 → runOn bytes u tr .result .end ≡ Refused r
+pub run-kept : (bytes : List ℕ) (u : RunTables) (tr : List ℕ) (r : Refusal) → runOn bytes u tr .result .lines ≡ 0
+    → runOn bytes u tr .result .end ≡ Refused r
     → (runOn bytes u tr .run ≡ u) × (runOn bytes u tr .trace ≡ tr)
 unfolding runOn
 run-kept bytes u tr r = by-sheet (checked bytes)

@@ -16,7 +16,7 @@ use Rattle.model.specs.Tables.{Tables, Lists, Spells}
 use Rattle.model.specs.Notices.{whos}
 use Rattle.model.specs.Formed.{notice-each, notice-process}
 use Rattle.model.specs.Once.{spelled-sized}
-use Rattle.sequencing.specs.Meaning.{split}
+use Rattle.model.specs.NowLaws.{splits}
 use Rattle.sequencing.specs.Forward.{Later}
 use Rattle.accumulator.specs.declared.Updated.{Updated}
 use Rattle.accumulator.specs.declared.Updated.the-variants.{To, Refused as NotUpdated}
@@ -78,11 +78,11 @@ module _ (c : Counts) (a : Allowed c) (m : Machine) (t : Tables) (s : Spells c (
   perform-laws : (k : Call) → Then (Performed c k m) (perform c k m)
   unfolding perform updatedAt
   perform-laws (onList k) =
-      let f = split (l .notices) (s .some) in
+      let f = splits (l .notices) (s .some) in
       let named : In 0 (whos (l .notices)) → ⊥ = λ i. omega (arith, notice-process c l t s 0 i) in
       go (listsAfter c k l) (lists-follow c l t (spelled-sized c l t s a) s k)
-      (call-notices c l (f .0) (f .1) (f .2) (s .in-order) (notice-each c l t s) named k)
-      (call-forward c l (f .0) (f .1) (f .2) (s .in-order) (notice-each c l t s) named k)
+      (call-notices c l (f .head) (f .rest) (f .is) (s .in-order) (notice-each c l t s) named k)
+      (call-forward c l (f .head) (f .rest) (f .is) (s .in-order) (notice-each c l t s) named k)
     where
       go : (r : Result Lists) → Follows c t r (tablesAfter c k t) → Notices (listPlacing k l) (l .notices) r → Later (time l) r
           → Then (Performed c (onList k) m) (lifted m r)

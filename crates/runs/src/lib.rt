@@ -1,5 +1,5 @@
 // Runs of model sheets: what a run call does to its tables and trace, that this is the plain machine's, and demand 3, in specs/. The code
-// is in `runner`.
+// is in `stepping`, `turning`, `filling` and `runner`.
 use counts::Refusal;
 use machine::End;
 

@@ -124,7 +124,8 @@ module _ (x : ℕ) (l : Lists) (n : Notice) (ns : List Notice) (e : l .notices �
 
   -- at and delay are one label with another T
   timed-code : (k y : ℕ) (t : ℤ) → k ≢ 0 → k < 5
-      → byCode ev x (clauseCode k) t y (clausePrior k) l ≡ atTime ev x (atLeast (time l) (if isDelay k then t +ℤ pos (time l) else t)) (clausePrior k) l
+      → byCode ev x (clauseCode k) t y (clausePrior k) l ≡ atTime ev x (atLeast (time l) (if isDelay k then t +ℤ pos (time l) else t))
+      (clausePrior k) l
   unfolding clauseCode
   timed-code k y t a b =
       test (isDelay k)
@@ -155,7 +156,8 @@ module _ (x : ℕ) (l : Lists) (n : Notice) (ns : List Notice) (e : l .notices �
   unfolding placed
   late k y t h h6 =
       let k5 : leb 5 k ≡ true = le-leb 5 k h in
-      let fits = within-limit (dueOf y (l .notices)) (leaving l (replaced k x y (dueOf y (l .notices)) (l .notices))) (within-due y (l .notices) w) in
+      let fits = within-limit (dueOf y (l .notices)) (leaving l (replaced k x y (dueOf y (l .notices)) (l .notices)))
+      (within-due y (l .notices) w) in
       beside-code k y t h h6
       ∙ test (hasNotice y (l .notices))
       (λ hy.
@@ -187,7 +189,8 @@ module _ (x : ℕ) (l : Lists) (n : Notice) (ns : List Notice) (e : l .notices �
 
 -- ---- ACTIVATE
 
-pub activate-is : (c : Counts) (again : Bool) (k x y : ℕ) (t : ℤ) (l : Lists) (n : Notice) (ns : List Notice) → l .notices ≡ n ∷ ns → InOrder (l .notices)
+pub activate-is : (c : Counts) (again : Bool) (k x y : ℕ) (t : ℤ) (l : Lists) (n : Notice) (ns : List Notice) → l .notices ≡ n ∷ ns
+    → InOrder (l .notices)
     → Within (l .notices) → (In 0 (whos (l .notices)) → ⊥)
     → need (timedNeed c k x y) (ACTIVATE again x (clauseCode k) t y (clausePrior k) l) ≡ timed c again k x y t l
 unfolding ACTIVATE timed noEffect

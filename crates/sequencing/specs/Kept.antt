@@ -38,12 +38,14 @@ module _ (m : ℕ) (a : Sqs) where
   held-kept : (d : ℕ) → Keeps a (held m d a)
   unfolding held
   held-kept d =
-      if-kept a (leb (timeOf m (a .axis) (a .times) + d) limit) (made (heldTo m (timeOf m (a .axis) (a .times) + d) a)) (turnedDown TimeLimit a)
+      if-kept a (leb (timeOf m (a .axis) (a .times) + d) limit) (made (heldTo m (timeOf m (a .axis) (a .times) + d) a))
+      (turnedDown TimeLimit a)
       (made-kept a _) (down-kept a TimeLimit)
 
   passivated-kept : Keeps a (passivated m a)
   unfolding passivated
-  passivated-kept = if-kept a (lone m a) (turnedDown NoNotice a) (made (dropOn m (firstOf m (a .axis)) a)) (down-kept a NoNotice) (made-kept a _)
+  passivated-kept = if-kept a (lone m a) (turnedDown NoNotice a) (made (dropOn m (firstOf m (a .axis)) a)) (down-kept a NoNotice)
+      (made-kept a _)
 
   cancelled-kept : (x : ℕ) → Keeps a (cancelled m x a)
   unfolding cancelled
@@ -57,16 +59,19 @@ module _ (m : ℕ) (a : Sqs) where
       let now : ℕ = timeOf m (a .axis) (a .times) in
       let u : ℕ = dueAt k y d now (a .times) in
       if-kept a (vain again k x y marks (a .axis)) (made a)
-      (if leb u limit then (if leb 5 k && idleAt a y then cancelled m x a else made (putByClause m k x y now u a)) else turnedDown TimeLimit a)
+      (if leb u limit then (if leb 5 k && idleAt a y then cancelled m x a else made
+      (putByClause m k x y now u a)) else turnedDown TimeLimit a)
       (made-kept a a)
-      (if-kept a (leb u limit) (if leb 5 k && idleAt a y then cancelled m x a else made (putByClause m k x y now u a)) (turnedDown TimeLimit a)
+      (if-kept a (leb u limit) (if leb 5 k && idleAt a y then cancelled m x a else made (putByClause m k x y now u a))
+      (turnedDown TimeLimit a)
       (if-kept a (leb 5 k && idleAt a y) (cancelled m x a) (made (putByClause m k x y now u a)) (cancelled-kept x) (made-kept a _))
       (down-kept a TimeLimit))
 
 -- ---- on the whole model
 
 sqs-kept : (f : List ℕ → Sqs → Outcome) → ((k : List ℕ) (a : Sqs) → Keeps a (f k a)) → KeepsRefused (onSqs f)
-sqs-kept f g t r e = ap (λ (a : Sqs). record { links = t .links; axis = a .axis; times = a .times; marks = t .marks }) (g (t .marks) (sqsOf t) r e)
+sqs-kept f g t r e = ap (λ (a : Sqs). record { links = t .links; axis = a .axis; times = a .times; marks = t .marks })
+    (g (t .marks) (sqsOf t) r e)
 
 module _ (c : Counts) where
   pub hold-steps : (z : ℤ) → KeepsRefused (onSqs (λ k a. holdStep c z a))
@@ -81,7 +86,8 @@ module _ (c : Counts) where
   unfolding cancelStep
   cancel-steps x =
       sqs-kept _ (λ k a.
-      if-kept a (orNone (isProcess c x) x) (cancelled (half c) (placeOf c x) a) (turnedDown Operand a) (cancelled-kept (half c) a (placeOf c x)) (down-kept a Operand))
+      if-kept a (orNone (isProcess c x) x) (cancelled (half c) (placeOf c x) a) (turnedDown Operand a)
+      (cancelled-kept (half c) a (placeOf c x)) (down-kept a Operand))
 
   pub timed-steps : (again : Bool) (k x y : ℕ) (z : ℤ) → KeepsRefused (onSqs (λ m a. timedStep c again k x y z m a))
   unfolding timedStep

@@ -4,12 +4,10 @@ use Prim.Native.Nat.{ℕ, _+_, _-_, _<_}
 use mathlib.Core.Path.{_≡_, refl, sym, ap, subst}
 use mathlib.Core.Logic.{_≢_}
 use mathlib.Core.Bool.{Bool, true, false, not, _&&_, _||_}
-use mathlib.Core.List.{List, [], _∷_}
+use mathlib.Core.List.{List}
 use native.Mathlib.Omega.{arith}
-use native.Mathlib.Nat.{not-suc-le-zero}
 use lib.Dec.{eqb, leb}
 use lib.IntN.{ℤ}
-use lib.ListN.{length}
 use borrow.Author.Tests.{eq-eqb, ne-eqb, le-leb, lt-leb, leb-false, lt-ltb}
 use Rattle.rings.specs.Lists.{decide, test, clash}
 use Rattle.counts.specs.declared.Counts.{Counts}
@@ -34,6 +32,7 @@ use Rattle.sequencing.specs.Agree.{withSqs, withMarks, Agrees, AgreesMar
 use Rattle.sequencing.specs.AgreeEnds.{passivate-agrees, cancel-agrees, finish-agrees, lone-leaves, wait-agrees}
 use Rattle.sequencing.specs.Replace.{timedDropFirst, drop-first}
 use Rattle.sequencing.specs.AgreeTimed.{timed-agrees}
+use Rattle.model.specs.NowLaws.{Split, splits}
 use Rattle.model.specs.Now.{first, current, firstOf, half}
 use Rattle.model.specs.Result.{Follows, done, refused, Result}
 use Rattle.sets.specs.Plain.{withSets}
@@ -46,11 +45,6 @@ follows-marks : (c : Counts) (t : Tables) (r : Result Lists) (o : Outcome) (k : 
     → Follows c t r (record { tables = withMarks (withSqs t (o .left)) k; answer = o .answer })
 follows-marks c t (refused r) o k g = (g .0, λ i. withMarks (withSqs t (g .1 i)) (g .2 i))
 follows-marks c t (done l) o k g = g
-
--- a well-formed model has a first notice
-pub split : (ns : List Notice) → 0 < length ns → (n : Notice) × (k : List Notice) × (ns ≡ n ∷ k)
-split [] l = absurd (not-suc-le-zero l)
-split (n ∷ k) l = (n, k, refl)
 
 -- a clause up to 4 does not look at Y
 timed-plain : (c : Counts) (again : Bool) (k x y : ℕ) (z : ℤ) (l : Lists) → k < 5 → timedDropFirst c again k x y z l ≡ timedDropFirst c again k x 0 z l
@@ -68,27 +62,20 @@ unfolding finish
 plain-refused c l q = rw (eq-eqb (current l) (main c) q)
 
 module _ (c : Counts) (l : Lists) (t : Tables) (w : Sized c t) (s : Spells c l t) where
-  n : Notice
-  n = split (l .notices) (s .some) .0
-
-  ns : List Notice
-  ns = split (l .notices) (s .some) .1
-
-  e : l .notices ≡ n ∷ ns
-  unfolding n ns
-  e = split (l .notices) (s .some) .2
+  sp : Split (l .notices)
+  sp = splits (l .notices) (s .some)
 
   pub hold-means : (z : ℤ) → Follows c t (hold z l) (called c (onSqs (λ k a. holdStep c z a)) t)
   unfolding holdStep
-  hold-means z = rw (called-is c l t w s (onSqs (λ k a. holdStep c z a))) (follows-sqs c t (hold z l) _ (hold-agrees c l t s n ns e z))
+  hold-means z = rw (called-is c l t w s (onSqs (λ k a. holdStep c z a))) (follows-sqs c t (hold z l) _ (hold-agrees c l t s (sp .head) (sp .rest) (sp .is) z))
 
   pub passivate-means : Follows c t (passivate l) (called c (onSqs (λ k a. passivateStep c a)) t)
   unfolding passivateStep
-  passivate-means = rw (called-is c l t w s (onSqs (λ k a. passivateStep c a))) (follows-sqs c t (passivate l) _ (passivate-agrees c l t s n ns e))
+  passivate-means = rw (called-is c l t w s (onSqs (λ k a. passivateStep c a))) (follows-sqs c t (passivate l) _ (passivate-agrees c l t s (sp .head) (sp .rest) (sp .is)))
 
   cancel-on : (x : ℕ) → orNone (isProcess c x) x ≡ true → Follows c t (cancel c x l) (onSqs (λ k a. cancelStep c x a) t)
   unfolding cancelStep
-  cancel-on x g = rw g (follows-sqs c t (cancel c x l) _ (cancel-agrees c l t s n ns e x g))
+  cancel-on x g = rw g (follows-sqs c t (cancel c x l) _ (cancel-agrees c l t s (sp .head) (sp .rest) (sp .is) x g))
 
   cancel-off : (x : ℕ) → orNone (isProcess c x) x ≡ false → Follows c t (cancel c x l) (onSqs (λ k a. cancelStep c x a) t)
   unfolding cancelStep cancel
@@ -98,7 +85,7 @@ module _ (c : Counts) (l : Lists) (t : Tables) (w : Sized c t) (s : Spells c l t
   unfolding timedStep
   timed-on again k x y z g =
       test (leb 5 k)
-      (λ h. rw (g, h) (follows-sqs c t (timedDropFirst c again k x y z l) _ (timed-agrees c l t s n ns e again k x y z g)))
+      (λ h. rw (g, h) (follows-sqs c t (timedDropFirst c again k x y z l) _ (timed-agrees c l t s (sp .head) (sp .rest) (sp .is) again k x y z g)))
       (λ h.
       let k5 : k < 5 = leb-false 5 k h in
       let g0 : timedNeed c k x 0 ≡ true = subst (λ (b : Bool). (leb k 6 && orNone (isProcess c x) x && (not b || orNone (isProcess c 0) 0)) ≡ true) (sym h) (rw h at g) in
@@ -112,21 +99,21 @@ module _ (c : Counts) (l : Lists) (t : Tables) (w : Sized c t) (s : Spells c l t
       (sym (timed-plain c again k x y z l k5))
       (follows-sqs c t (timedDropFirst c again k x 0 z l) _
       (subst (λ (j : ℕ). Agrees c t (timedDropFirst c again k x 0 z l) (activated (half c) again k (x - c .heads) j (above z) (t .marks) (sqsOf t))) zero-place
-      (timed-agrees c l t s n ns e again k x 0 z g0)))))
+      (timed-agrees c l t s (sp .head) (sp .rest) (sp .is) again k x 0 z g0)))))
 
   timed-off : (again : Bool) (k x y : ℕ) (z : ℤ) → timedNeed c k x y ≡ false → Follows c t (timedDropFirst c again k x y z l) (onSqs (λ m a. timedStep c again k x y z m a) t)
   unfolding timedStep timedDropFirst
   timed-off again k x y z g = rw g (refl, refl)
 
   -- current's place
-  place-first : firstOf (half c) (t .axis) ≡ n .who - c .heads
-  place-first = first-is c n ns (sqsOf t) (st c l t s n ns e)
+  place-first : firstOf (half c) (t .axis) ≡ sp .head .who - c .heads
+  place-first = first-is c (sp .head) (sp .rest) (sqsOf t) (st c l t s (sp .head) (sp .rest) (sp .is))
 
-  first-process : Process c (n .who)
-  first-process = process-first c n ns (sqsOf t) (st c l t s n ns e)
+  first-process : Process c (sp .head .who)
+  first-process = process-first c (sp .head) (sp .rest) (sqsOf t) (st c l t s (sp .head) (sp .rest) (sp .is))
 
-  current-is : current l ≡ n .who
-  current-is = ap (λ (k : List Notice). first k .who) e
+  current-is : current l ≡ sp .head .who
+  current-is = ap (λ (k : List Notice). first k .who) (sp .is)
 
   finish-main : current l ≡ main c → Follows c t (finish c l) (onMarks (λ k a. finishStep c k a) t)
   finish-main q =
@@ -144,7 +131,7 @@ module _ (c : Counts) (l : Lists) (t : Tables) (w : Sized c t) (s : Spells c l t
   finish-other q =
       let f : firstOf (half c) (t .axis) ≢ 1 = λ z. q (omega (arith, place-first, current-is, first-process)) in
       let g : not (eqb (current l) (main c)) ≡ true = ap not (ne-eqb (current l) (main c) q) in
-      rw (ne-eqb (firstOf (half c) (t .axis)) 1 f) (follows-marks c t (finish c l) _ _ (finish-agrees c l t s n ns e g))
+      rw (ne-eqb (firstOf (half c) (t .axis)) 1 f) (follows-marks c t (finish c l) _ _ (finish-agrees c l t s (sp .head) (sp .rest) (sp .is) g))
 
   -- ---- wait
 
@@ -157,7 +144,7 @@ module _ (c : Counts) (l : Lists) (t : Tables) (w : Sized c t) (s : Spells c l t
   wait-lone y g q =
       rw (g, q)
       (subst (λ (r : Result Lists). Follows c t r (record { tables = t; answer = Refused NoNotice }))
-      (sym (lone-leaves c l t s n ns e (withSets l (precedeSets (current l) y (l .sets))) q)) (refl, refl))
+      (sym (lone-leaves c l t s (sp .head) (sp .rest) (sp .is) (withSets l (precedeSets (current l) y (l .sets))) q)) (refl, refl))
 
   -- current is a link, and goes into the set of y
   entered : (y : ℕ) → orNone (isHead c y) y ≡ true
@@ -179,14 +166,14 @@ module _ (c : Counts) (l : Lists) (t : Tables) (w : Sized c t) (s : Spells c l t
     where
       current-link : isLink c (current l) ≡ true
       current-link =
-          rw (current-is, lt-ltb (c .heads) (n .who) (first-process .over)) (le-leb (n .who) (total c) (omega (arith, first-process .upto)))
+          rw (current-is, lt-ltb (c .heads) (sp .head .who) (first-process .over)) (le-leb (sp .head .who) (total c) (omega (arith, first-process .upto)))
 
   wait-on : (y : ℕ) → orNone (isHead c y) y ≡ true → lone (half c) (sqsOf t) ≡ false → Follows c t (wait c y l) (onSets (λ k a. waitStep c y k a) t)
   unfolding waitStep passivated
   wait-on y g q =
       let here : c .heads + firstOf (half c) (t .axis) ≡ current l = omega (arith, place-first, current-is, first-process) in
       let u : Tables = record { links = preceded (total c + 1) (current l) y (t .links); axis = t .axis; times = t .times; marks = t .marks } in
-      let a = wait-agrees c (withSets l (precedeSets (current l) y (l .sets))) u (entered y g) n ns e y l g refl in
+      let a = wait-agrees c (withSets l (precedeSets (current l) y (l .sets))) u (entered y g) (sp .head) (sp .rest) (sp .is) y l g refl in
       rw (g, q, here) (waited (wait c y l) (rw q at a))
     where
       waited : (r : Result Lists)

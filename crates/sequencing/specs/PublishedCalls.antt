@@ -32,8 +32,9 @@ use Rattle.sequencing.specs.Published.{addedTo, heldFirst, clauseCode, c
 use Rattle.sequencing.specs.Published as published
 use Rattle.sequencing.specs.RankLaws.{rank-behind}
 use Rattle.sequencing.specs.ActivateLaws.{error-is, activate-is}
-use Rattle.sequencing.specs.Meaning.{split, hold-means, passivate-means, wait-means, cancel-means, finish-means, timed-means}
+use Rattle.sequencing.specs.Meaning.{hold-means, passivate-means, wait-means, cancel-means, finish-means, timed-means}
 use Rattle.model.specs.Result.{Follows, need, done, Result}
+use Rattle.model.specs.NowLaws.{Split, splits}
 use Rattle.model.specs.Now.{first, time, current}
 use Rattle.sets.specs.Plain.{withSets}
 
@@ -92,38 +93,34 @@ module _ (l : Lists) (n : Notice) (ns : List Notice) (e : l .notices ≡ n ∷ n
   unfolding published.cancel published.passivate
   cancelled-is f x =
       test (eqb x (current l))
-      (λ q. rw q (error-is l (dropped (current l) (l .notices)) ∙ ap (λ (p : ℕ). leaving l (dropped p (l .notices))) (sym (eqb-true x (current l) q))))
+      (λ q. rw q (error-is l (dropped (current l) (l .notices)) ∙ ap (λ (p : ℕ). leaving l (dropped p (l .notices)))
+      (sym (eqb-true x (current l) q))))
       (λ q.
       let same : (In x (whos (l .notices)) → ⊥) → done l ≡ leaving l (dropped x (l .notices)) =
-      λ g. ap (λ (k : List Notice). done (withNotices l k)) (sym (drop-none x (l .notices) g)) ∙ others-left x (eqb-false x (current l) q) in
+      λ g. ap (λ (k : List Notice). done (withNotices l k)) (sym (drop-none x (l .notices) g))
+      ∙ others-left x (eqb-false x (current l) q) in
       rw q (test (eqb x 0)
       (λ z. rw z (same (λ i. f (subst (λ (p : ℕ). In p (whos (l .notices))) (eqb-true x 0 z) i))))
       (λ z. rw z (test (hasNotice x (l .notices))
       (λ h. rw h (others-left x (eqb-false x (current l) q)))
       (λ h. rw h (same (has-none x (l .notices) h)))))))
 
-  pub cancel-is : (In 0 (whos (l .notices)) → ⊥) → (c : Counts) (x : ℕ) → need (orNone (isProcess c x) x) (published.cancel x l) ≡ plain.cancel c x l
+  pub cancel-is : (In 0 (whos (l .notices)) → ⊥) → (c : Counts) (x : ℕ)
+      → need (orNone (isProcess c x) x) (published.cancel x l) ≡ plain.cancel c x l
   unfolding plain.cancel
   cancel-is f c x = ap (need (orNone (isProcess c x) x)) (cancelled-is f x)
 
 -- ---- what the public calls leave
 
 module _ (c : Counts) (l : Lists) (t : Tables) (w : Sized c t) (s : Spells c l t) where
-  n : Notice
-  n = split (l .notices) (s .some) .0
+  sp : Split (l .notices)
+  sp = splits (l .notices) (s .some)
 
-  ns : List Notice
-  ns = split (l .notices) (s .some) .1
+  o : InOrder (sp .head ∷ sp .rest)
+  o = rw (sp .is) at (s .in-order)
 
-  e : l .notices ≡ n ∷ ns
-  unfolding n ns
-  e = split (l .notices) (s .some) .2
-
-  o : InOrder (n ∷ ns)
-  o = rw e at (s .in-order)
-
-  d : Dist (whos (n ∷ ns))
-  d = rw e at (notice-each c l t s)
+  d : Dist (whos (sp .head ∷ sp .rest))
+  d = rw (sp .is) at (notice-each c l t s)
 
   no-zero : In 0 (whos (l .notices)) → ⊥
   no-zero i = omega (arith, notice-process c l t s 0 i)
@@ -132,22 +129,27 @@ module _ (c : Counts) (l : Lists) (t : Tables) (w : Sized c t) (s : Spells c l t
   leaves r q a p f = subst (λ (r : Result Lists). Follows c t r a) (sym p) f
 
   pub hold-leaves : (T : ℤ) → Follows c t (published.hold T l) (called c (onSqs (λ k a. holdStep c T a)) t)
-  hold-leaves T = leaves _ _ _ (hold-is l n ns e o d T) (hold-means c l t w s T)
+  hold-leaves T = leaves _ _ _ (hold-is l (sp .head) (sp .rest) (sp .is) o d T) (hold-means c l t w s T)
 
   pub passivate-leaves : Follows c t (published.passivate l) (called c (onSqs (λ k a. passivateStep c a)) t)
-  passivate-leaves = leaves _ _ _ (passivate-is l n ns e o d) (passivate-means c l t w s)
+  passivate-leaves = leaves _ _ _ (passivate-is l (sp .head) (sp .rest) (sp .is) o d) (passivate-means c l t w s)
 
-  pub wait-leaves : (y : ℕ) → Follows c t (need (orNone (isHead c y) y) (published.wait y l)) (called c (onSets (λ k a. waitStep c y k a)) t)
-  wait-leaves y = leaves _ _ _ (wait-is l n ns e o d c y) (wait-means c l t w s y)
+  pub wait-leaves : (y : ℕ)
+      → Follows c t (need (orNone (isHead c y) y) (published.wait y l)) (called c (onSets (λ k a. waitStep c y k a)) t)
+  wait-leaves y = leaves _ _ _ (wait-is l (sp .head) (sp .rest) (sp .is) o d c y) (wait-means c l t w s y)
 
-  pub cancel-leaves : (x : ℕ) → Follows c t (need (orNone (isProcess c x) x) (published.cancel x l)) (called c (onSqs (λ k a. cancelStep c x a)) t)
-  cancel-leaves x = leaves _ _ _ (cancel-is l n ns e o d no-zero c x) (cancel-means c l t w s x)
+  pub cancel-leaves : (x : ℕ)
+      → Follows c t (need (orNone (isProcess c x) x) (published.cancel x l)) (called c (onSqs (λ k a. cancelStep c x a)) t)
+  cancel-leaves x = leaves _ _ _ (cancel-is l (sp .head) (sp .rest) (sp .is) o d no-zero c x) (cancel-means c l t w s x)
 
   -- main can't finish by call
-  pub finish-leaves : Follows c t (need (not (eqb (current l) (main c))) (published.terminate l)) (called c (onMarks (λ k a. finishStep c k a)) t)
-  finish-leaves = leaves _ _ _ (finish-is l n ns e o d c) (finish-means c l t w s)
+  pub finish-leaves : Follows c t (need (not (eqb (current l) (main c))) (published.terminate l))
+      (called c (onMarks (λ k a. finishStep c k a)) t)
+  finish-leaves = leaves _ _ _ (finish-is l (sp .head) (sp .rest) (sp .is) o d c) (finish-means c l t w s)
 
   -- activate with again false, reactivate with again true; k is the clause
   pub activate-leaves : (again : Bool) (k x y : ℕ) (T : ℤ)
-      → Follows c t (need (timedNeed c k x y) (ACTIVATE again x (clauseCode k) T y (clausePrior k) l)) (called c (onSqs (λ m a. timedStep c again k x y T m a)) t)
-  activate-leaves again k x y T = leaves _ _ _ (activate-is c again k x y T l n ns e (s .in-order) (s .within) no-zero) (timed-means c l t w s again k x y T)
+      → Follows c t (need (timedNeed c k x y) (ACTIVATE again x (clauseCode k) T y (clausePrior k) l))
+      (called c (onSqs (λ m a. timedStep c again k x y T m a)) t)
+  activate-leaves again k x y T = leaves _ _ _ (activate-is c again k x y T l (sp .head) (sp .rest) (sp .is) (s .in-order)
+      (s .within) no-zero) (timed-means c l t w s again k x y T)

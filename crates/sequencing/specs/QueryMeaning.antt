@@ -28,11 +28,11 @@ use Rattle.sequencing.specs.Procedures.{Sqs, idleAt}
 use Rattle.sequencing.specs.Calls.{sqsOf, currentTold, timeTold, idleTold, terminatedTold, evtimeTold, nextevTold}
 use Rattle.model.specs.Reading.{who-place}
 use Rattle.sequencing.specs.Places.{SpellsTime, Process, chain, off-head, is-process, times-at, member}
-use Rattle.sequencing.specs.Agree.{its-time, st, first-is, process-first, time-is}
+use Rattle.sequencing.specs.Agree.{its-time, st}
 use Rattle.sequencing.specs.AgreeEnds.{Party, has-in, idle-has}
 use Rattle.sequencing.specs.AgreeTimed.{marks-at}
-use Rattle.sequencing.specs.Meaning.{split}
-use Rattle.model.specs.Now.{first, time, current, half}
+use Rattle.model.specs.NowLaws.{Split, splits, current-now, time-now}
+use Rattle.model.specs.Now.{time, current, half}
 
 -- the process of the notice after x's, none where x's is the last
 abbrev pub nextAfter : ℕ → List Notice → ℕ
@@ -81,15 +81,8 @@ process-of c x e =
     record { over = ltb-true (c .heads) x (p .0); upto = leb-true x (c .heads + c .processes) (p .1) }
 
 module _ (c : Counts) (l : Lists) (t : Tables) (w : Sized c t) (s : Spells c l t) where
-  n : Notice
-  n = split (l .notices) (s .some) .0
-
-  ns : List Notice
-  ns = split (l .notices) (s .some) .1
-
-  e : l .notices ≡ n ∷ ns
-  unfolding n ns
-  e = split (l .notices) (s .some) .2
+  sp : Split (l .notices)
+  sp = splits (l .notices) (s .some)
 
   abbrev a : Sqs
   a = sqsOf t
@@ -99,17 +92,11 @@ module _ (c : Counts) (l : Lists) (t : Tables) (w : Sized c t) (s : Spells c l t
 
   pub current-means : asked c (λ k. currentTold c (sqsOf k)) t ≡ Linkage (current l)
   unfolding currentTold
-  current-means =
-      let f = first-is c n ns a (st c l t s n ns e) in
-      let p = process-first c n ns a (st c l t s n ns e) in
-      let h : current l ≡ n .who = ap (λ (k : List Notice). first k .who) e in
-      asked-is c l t w s (λ k. currentTold c (sqsOf k)) ∙ ap Linkage (omega (arith, f, p, h))
+  current-means = asked-is c l t w s (λ k. currentTold c (sqsOf k)) ∙ ap Linkage (current-now c l t s)
 
   pub time-means : asked c (λ k. timeTold c (sqsOf k)) t ≡ Number (time l)
   unfolding timeTold
-  time-means =
-      asked-is c l t w s (λ k. timeTold c (sqsOf k))
-      ∙ ap Number (time-is c n ns a (st c l t s n ns e) ∙ sym (ap (λ (k : List Notice). first k .due) e))
+  time-means = asked-is c l t w s (λ k. timeTold c (sqsOf k)) ∙ ap Number (time-now c l t s)
 
   module _ (x : ℕ) where
     idle-is : Process c x → idleAt a (x - c .heads) ≡ not (hasNotice x (l .notices))
@@ -125,7 +112,7 @@ module _ (c : Counts) (l : Lists) (t : Tables) (w : Sized c t) (s : Spells c l t
     terminated-means =
         asked-is c l t w s (λ k. terminatedTold c x (k .marks))
         ∙ told-by (isProcess c x) _ _ (λ g.
-        ap Truth (ap (λ (j : ℕ). eqb j 1) (marks-at c l t s n ns e x (process-of c x g)) ∙ bit-is (has x (l .terminated))))
+        ap Truth (ap (λ (j : ℕ). eqb j 1) (marks-at c l t s (sp .head) (sp .rest) (sp .is) x (process-of c x g)) ∙ bit-is (has x (l .terminated))))
 
     -- 6 exactly for an idle process
     pub evtime-means : asked c (λ k. evtimeTold c x (sqsOf k)) t ≡ toldIf (isProcess c x) (evtimeOf x (l .notices))

@@ -54,7 +54,8 @@ module _ (n : Notice) where
 
   follow-front : (u : ℕ) (upto passed : List Notice) → u < n .due → Upto u upto → From (n .due) passed
       → followP n upto passed ≡ frontAll n (backOnto upto passed)
-  follow-front u upto passed b g f = ap (backOnto upto) (sym (front-first n (n .due) passed (omega arith) f)) ∙ sym (front-back u upto passed b g)
+  follow-front u upto passed b g f = ap (backOnto upto) (sym (front-first n (n .due) passed (omega arith) f))
+      ∙ sym (front-back u upto passed b g)
 
   -- ---- the loops
 

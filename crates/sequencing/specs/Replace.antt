@@ -1,5 +1,5 @@
--- Activate and reactivate in the tables' order: X's earlier notice is dropped, then the new one is placed. `timed` has the papers' order, in
--- which the new notice is placed while the earlier one still stands. Both leave the same lists.
+-- Activate and reactivate in the tables' order: X's earlier notice is dropped, then the new one is placed. `timed` has the papers' order,
+-- in which the new notice is placed while the earlier one still stands. Both leave the same lists.
 use Prim.Native.Nat.{ℕ, suc, _≤_}
 use mathlib.Core.Path.{_≡_, refl, sym, ap, _∙_}
 use mathlib.Core.Logic.{_≢_, inl, inr}
@@ -72,9 +72,11 @@ module _ (x u : ℕ) (some : x ≢ 0) where
   replaced-behind (k ∷ ks) o f =
       below u (k .due)
       (λ l. rw (lt-leb (k .due) u l)
-      (here (k ∷ ks) f ∙ sym (behind-first its (dropped x (k ∷ ks)) (drop-from x (suc u) (k ∷ ks) (l, from-less (suc u) (k .due) ks l (o .0))))))
+      (here (k ∷ ks) f ∙ sym (behind-first its (dropped x (k ∷ ks))
+      (drop-from x (suc u) (k ∷ ks) (l, from-less (suc u) (k .due) ks l (o .0))))))
       (λ l.
-      let r = there k (behindAll new ks) (behindAll its (dropped x ks)) (λ e. f (inl (sym e))) (replaced-behind ks (o .1) (λ i. f (inr i))) in
+      let r = there k (behindAll new ks) (behindAll its (dropped x ks)) (λ e. f (inl (sym e)))
+      (replaced-behind ks (o .1) (λ i. f (inr i))) in
       rw (le-leb (k .due) u l) (decide (k .who) x
       (λ e. r .0 e ∙ sym (rw (eq-eqb (k .who) x e)))
       (λ d. r .1 d ∙ sym (rw (ne-eqb (k .who) x d, le-leb (k .due) u l)))))
@@ -89,7 +91,8 @@ module _ (x u : ℕ) (some : x ≢ 0) where
       (λ e. r .0 e ∙ sym (rw (eq-eqb (k .who) x e)))
       (λ d. r .1 d ∙ sym (rw (ne-eqb (k .who) x d, lt-ltb (k .due) u l)))))
       (λ l. rw (le-ltb (k .due) u l)
-      (here (k ∷ ks) f ∙ sym (front-first its u (dropped x (k ∷ ks)) (omega arith) (drop-from x u (k ∷ ks) (l, from-less u (k .due) ks l (o .0))))))
+      (here (k ∷ ks) f ∙ sym (front-first its u (dropped x (k ∷ ks)) (omega arith)
+      (drop-from x u (k ∷ ks) (l, from-less u (k .due) ks l (o .0))))))
 
   module _ (y : ℕ) (other : y ≢ x) where
     replaced-before : (ns : List Notice) → Named ns → named x (dropped x (before y new ns)) ≡ before y its (dropped x ns)
@@ -130,11 +133,19 @@ module _ (k x y u : ℕ) (some : x ≢ 0) (ns : List Notice) (o : InOrder ns) (f
       let none : In y (whos ns) → ⊥ = has-none y ns h in
       let gone : In y (whos (dropped x ns)) → ⊥ = λ i. none (drop-in x ns y i) in
       test (eqb k 5)
-      (λ e. rw (e, before-none y (record { who = 0; due = u }) ns none, before-none y (record { who = x; due = u }) (dropped x ns) gone) (named-dropped x u some ns f))
-      (λ e. rw (e, eq-eqb k 6 (omega (arith, eqb-false k 5 e)), after-none y (record { who = 0; due = u }) ns none, after-none y (record { who = x; due = u }) (dropped x ns) gone)
+      (λ e. rw (e, before-none y (record { who = 0; due = u }) ns none, before-none y (record { who = x; due = u }) (dropped x ns) gone)
+      (named-dropped x u some ns f))
+      (λ e. rw (
+        e,
+        eq-eqb k 6 (omega (arith, eqb-false k 5 e)),
+        after-none y (record { who = 0; due = u }) ns none,
+        after-none y
+            (record { who = x; due = u }) (dropped x ns) gone,
+      )
       (named-dropped x u some ns f))
 
-  pub replaced-is : k ≤ 6 → (5 ≤ k → hasNotice y ns ≡ true → y ≢ x) → replaced k x y u ns ≡ placed k y (record { who = x; due = u }) (dropped x ns)
+  pub replaced-is : k ≤ 6 → (5 ≤ k → hasNotice y ns ≡ true → y ≢ x)
+      → replaced k x y u ns ≡ placed k y (record { who = x; due = u }) (dropped x ns)
   unfolding placed
   replaced-is m g =
       below 4 k
@@ -156,5 +167,6 @@ drop-first c again k x y z l o f =
     (λ g. rw g (test (noEffect again k x y l)
     (λ q. rw q refl)
     (λ q. rw q (ap (λ (ns : List Notice). upTo (dueFor k y z l) (leaving l ns))
-    (sym (replaced-is k x y (dueFor k y z l) (not-none again k x y l q) (l .notices) o f (clause-in c k x y g) (λ m h. others-y again k x y l m q h)))))))
+    (sym (replaced-is k x y (dueFor k y z l) (not-none again k x y l q) (l .notices) o f (clause-in c k x y g)
+    (λ m h. others-y again k x y l m q h)))))))
     (λ g. rw g refl)

@@ -29,7 +29,8 @@ links-kept c (into x y) t r e = if-kept (isLink c x && orNone (isHead c y) y) t 
 links-kept c (clear x) t r e = if-kept (isHead c x) t (cleared (total c + 1) x t) r e
 
 pub set-kept : (c : Counts) (k : SetCall) → KeepsRefused (onLinks (linksAfter c k))
-set-kept c k t r e = ap (λ (l : List ℕ). record { links = l; axis = t .axis; times = t .times; marks = t .marks }) (links-kept c k (t .links) r e)
+set-kept c k t r e = ap (λ (l : List ℕ). record { links = l; axis = t .axis; times = t .times; marks = t .marks })
+    (links-kept c k (t .links) r e)
 
 -- ---- the public calls
 

@@ -102,8 +102,10 @@ module _ (c : Counts) (l : Lists) (t : Tables) (z : Sized c t) (s : Spells c l t
   set-follows (into x y) =
       by-kinds (isLink c x && orNone (isHead c y) y) _ _ (λ e.
       let p = both (isLink c x) (orNone (isHead c y) y) e in
-      sets-preceded m (c .heads) (l .sets) (t .links) (s .links) heads-in x (link-of c x (p .0)) y (none-or (isHead c y) y (total c) (head-in c y) (p .1)))
-  set-follows (clear x) = by-kinds (isHead c x) _ _ (λ e. sets-cleared m (c .heads) (l .sets) (t .links) (s .links) heads-in x (head-of c x e))
+      sets-preceded m (c .heads) (l .sets) (t .links) (s .links) heads-in x (link-of c x (p .0)) y
+      (none-or (isHead c y) y (total c) (head-in c y) (p .1)))
+  set-follows (clear x) = by-kinds (isHead c x) _ _ (λ e. sets-cleared m (c .heads) (l .sets) (t .links) (s .links) heads-in x
+      (head-of c x e))
 
   -- the public calls are the steps on judged tables
   pub set-means : (k : SetCall) → Follows c t (setCall c k l) (called c (onLinks (linksAfter c k)) t)
@@ -127,7 +129,8 @@ module _ (c : Counts) (l : Lists) (t : Tables) (z : Sized c t) (s : Spells c l t
   -- ---- the queries
 
   -- refused by its test, or told as the lists say
-  told-by : (b : Bool) (f : List ℕ → Answer) (v r : Answer) → f (t .links) ≡ toldIf b v → (b ≡ true → v ≡ r) → asked c (ofLinks f) t ≡ toldIf b r
+  told-by : (b : Bool) (f : List ℕ → Answer) (v r : Answer) → f (t .links) ≡ toldIf b v → (b ≡ true → v ≡ r)
+      → asked c (ofLinks f) t ≡ toldIf b r
   told-by b f v r e w = asked-is (ofLinks f) ∙ e ∙ test b (λ q. rw q (w q)) (λ q. rw q refl)
 
   suc-told : (x : ℕ) → x < m → Linkage (sucOf (c .heads) x (t .links)) ≡ Linkage (sucSets x (l .sets))
