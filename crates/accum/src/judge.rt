@@ -8,8 +8,8 @@ use ring::wide;
 use tables::judge::judge_tables;
 ghost use mathlib.Core.Path.{_≡_};
 ghost use Rattle.model.specs.Ready.{Ready};
-ghost use Rattle.accumulator.specs.Calls.{countFine, listFine, numberFine, listJudged, pickOf};
 ghost use Rattle.model.specs.Now.{half, timeOf};
+ghost use Rattle.accumulator.specs.Calls.{countFine, listFine, numberFine, listJudged, pickOf};
 
 // The time of a judged model: that of the first notice.
 pub(crate) fn time_of(c: Counts, links: &[u32], axis: &[u32], times: &[u64], marks: &[u8]) -> u64

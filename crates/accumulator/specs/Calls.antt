@@ -13,6 +13,7 @@ use Rattle.model.specs.declared.verdict.Verdict.{Verdict}
 use Rattle.model.specs.declared.verdict.Verdict.the-variants.{Fine, Refused as Judged}
 use Rattle.model.specs.Tables.{Tables}
 use Rattle.model.specs.Judge.{judged}
+use Rattle.model.specs.Now.{timeOf, half}
 use Rattle.accumulator.specs.declared.Accumulator.{Accumulator}
 use Rattle.accumulator.specs.declared.Kept.{Kept}
 use Rattle.accumulator.specs.declared.Picked.{Picked}
@@ -21,7 +22,6 @@ use Rattle.accumulator.specs.declared.Updated.the-variants.{To, Refused}
 use Rattle.accumulator.specs.Update.{updatedOf}
 use Rattle.accumulator.specs.Flat.{Changed, updatedIn}
 use Rattle.accumulator.specs.Triples.{Listed, updatedAt}
-use Rattle.model.specs.Now.{timeOf, half}
 
 -- ---- one accumulator
 

@@ -15,10 +15,10 @@ use Rattle.model.specs.declared.answer.Answer.the-variants.{Refused as Turned}
 use Rattle.model.specs.declared.verdict.Verdict.{Verdict}
 use Rattle.model.specs.declared.verdict.Verdict.the-variants.{Fine, Refused as Judged}
 use Rattle.model.specs.Tables.{Tables, Lists, Sized, Spells}
-use Rattle.model.specs.Now.{time, half, timeOf}
-use Rattle.model.specs.NowLaws.{time-now}
 use Rattle.model.specs.Judge.{judged}
 use Rattle.model.specs.Verdict.{judged-says}
+use Rattle.model.specs.Now.{time, half, timeOf}
+use Rattle.model.specs.NowLaws.{time-now}
 use Rattle.accumulator.specs.declared.Accumulator.{Accumulator}
 use Rattle.accumulator.specs.declared.Updated.{Updated}
 use Rattle.accumulator.specs.declared.Updated.the-variants.{To, Refused}

@@ -15,6 +15,7 @@ use Rattle.model.specs.declared.answer.Answer.the-variants.{Done, Refused as Tu
 use Rattle.model.specs.declared.verdict.Verdict.{Verdict}
 use Rattle.model.specs.declared.verdict.Verdict.the-variants.{Fine, Refused as Judged}
 use Rattle.model.specs.Tables.{Tables}
+use Rattle.model.specs.Now.{half, timeOf}
 use Rattle.accumulator.specs.declared.Accumulator.{Accumulator}
 use Rattle.accumulator.specs.declared.Kept.{Kept}
 use Rattle.accumulator.specs.declared.Picked.{Picked}
@@ -25,7 +26,6 @@ use Rattle.accumulator.specs.Keeps.{zero-accumulator}
 use Rattle.accumulator.specs.Triples.{numbered, listAfter, updatedAt}
 use Rattle.accumulator.specs.Calls.{keptOf, accumOne, countFine, numberFine, listJudged, listing, accumAt, picking, pickOf}
 use Rattle.accumulator.specs.Promise.{Passed, list-passed, number-in, time-in}
-use Rattle.model.specs.Now.{half, timeOf}
 
 module _ (c : Counts) (t : Tables) (n k : ℕ) (list number : Bool) (v : Verdict)
     (a : list ≡ countFine n) (b : number ≡ numberFine n k) (e : v ≡ listJudged list number c t) where

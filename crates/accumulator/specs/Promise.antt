@@ -19,6 +19,7 @@ use Rattle.model.specs.declared.verdict.Verdict.the-variants.{Fine, Refused as 
 use Rattle.model.specs.Tables.{Tables}
 use Rattle.model.specs.Judge.{judged}
 use Rattle.model.specs.Ready.{Ready, judged-ready}
+use Rattle.model.specs.Now.{firstOf, half, timeOf}
 use Rattle.accumulator.specs.declared.Accumulator.{Accumulator}
 use Rattle.accumulator.specs.declared.Kept.{Kept}
 use Rattle.accumulator.specs.declared.Updated.{Updated}
@@ -26,7 +27,6 @@ use Rattle.accumulator.specs.declared.Updated.the-variants.{To, Refused}
 use Rattle.accumulator.specs.Update.{updatedOf}
 use Rattle.accumulator.specs.Flat.{Changed, updatedIn}
 use Rattle.accumulator.specs.Calls.{keptOf, accumOne, keeping, accumAlone, countFine, listFine, numberFine, numberJudged, listJudged, changing, accumListed}
-use Rattle.model.specs.Now.{firstOf, half, timeOf}
 
 -- ---- one accumulator
 

@@ -16,6 +16,7 @@ use Rattle.model.specs.declared.answer.Answer.the-variants.{Refused as Turned}
 use Rattle.model.specs.declared.verdict.Verdict.{Verdict}
 use Rattle.model.specs.declared.verdict.Verdict.the-variants.{Fine, Refused as Judged}
 use Rattle.model.specs.Tables.{Tables}
+use Rattle.model.specs.Now.{half, timeOf}
 use Rattle.accumulator.specs.declared.Accumulator.{Accumulator}
 use Rattle.accumulator.specs.declared.Updated.{Updated}
 use Rattle.accumulator.specs.declared.Updated.the-variants.{To, Refused}
@@ -24,7 +25,6 @@ use Rattle.accumulator.specs.Keeps.{zero-accumulator, zeros-required, re
 use Rattle.accumulator.specs.Flat.{updatedIn}
 use Rattle.accumulator.specs.Triples.{flat, flattened, flat-length, flat-updated, numbered, listAfter, updatedAt}
 use Rattle.accumulator.specs.Calls.{countFine, listFine, numberFine, listJudged, changing, listing, accumListed, accumAt}
-use Rattle.model.specs.Now.{half, timeOf}
 
 -- ---- the flat list and the list of structs
 

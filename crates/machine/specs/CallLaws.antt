@@ -14,8 +14,11 @@ use Rattle.counts.specs.declared.Counts.{Counts}
 use Rattle.counts.specs.Counts.{limit, main, isHead, isProcess}
 use Rattle.model.specs.Notices.{Notice, whos, InOrder}
 use Rattle.model.specs.Tables.{Lists}
+use Rattle.model.specs.Result.{need, done, refused, Result}
+use Rattle.model.specs.Now.{first, time, current}
 use Rattle.sets.specs.Calls.{orNone}
 use Rattle.sets.specs.Sets.{precedeSets}
+use Rattle.sets.specs.Plain.{withSets, setsAfter, kindsFine}
 use Rattle.sequencing.specs.NoticeOps.{behindAll, dropped, hasNotice, rest}
 use Rattle.sequencing.specs.NoticeLaws.{rest-drop, drop-in}
 use Rattle.sequencing.specs.BesideLaws.{before-none, after-none}
@@ -30,9 +33,6 @@ use Rattle.sequencing.specs.Plain as plain
 use Rattle.machine.specs.Calls.{ListCall, onSet, hold, passivate, wait, cancel, activate, ifEmpty, finish, listsAfter}
 use Rattle.machine.specs.History.{behind, Placing, nothing, places, howOf, clausePlacing, timedPlacing, listPlacing, Stepwise}
 use Rattle.machine.specs.StepLaws.{stepwise-same, stepwise-drop, stepwise-placed}
-use Rattle.model.specs.Result.{need, done, refused, Result}
-use Rattle.model.specs.Now.{first, time, current}
-use Rattle.sets.specs.Plain.{withSets, setsAfter, kindsFine}
 
 -- refused, or done with the notices of this law
 abbrev pub Notices : Placing → List Notice → Result Lists → Type 0

@@ -7,15 +7,15 @@ use lib.ListN.{set}
 use Rattle.counts.specs.declared.Counts.{Counts}
 use Rattle.counts.specs.Counts.{isHead}
 use Rattle.model.specs.Tables.{Lists}
+use Rattle.model.specs.Result.{need, done, refused, Result}
+use Rattle.model.specs.Now.{time}
+use Rattle.sets.specs.Plain.{SetCall, setCall}
 use Rattle.sequencing.specs.Plain as plain
 use Rattle.accumulator.specs.declared.Updated.{Updated}
 use Rattle.accumulator.specs.declared.Updated.the-variants.{To, Refused}
 use Rattle.accumulator.specs.Update.{updatedOf}
 use Rattle.accumulator.specs.Triples.{numbered}
 use Rattle.machine.specs.Machine.{Machine, withLists, withTriples}
-use Rattle.model.specs.Result.{need, done, refused, Result}
-use Rattle.model.specs.Now.{time}
-use Rattle.sets.specs.Plain.{SetCall, setCall}
 
 -- ---- the calls of a step: a record's, with its operands resolved, or finish
 

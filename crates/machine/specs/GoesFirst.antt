@@ -8,6 +8,8 @@ use mathlib.Core.List.{List, [], _∷_}
 use Rattle.rings.specs.Lists.{In, clash}
 use Rattle.rings.specs.Distinct.{Dist}
 use Rattle.model.specs.Notices.{Notice, whos}
+use Rattle.model.specs.Result.{done, refused, Result}
+use Rattle.model.specs.Now.{first, current}
 use Rattle.sequencing.specs.Orders.{Before}
 use Rattle.sheet.specs.Sheet.{Sheet}
 use Rattle.machine.specs.Machine.{Machine, withPosition}
@@ -16,8 +18,6 @@ use Rattle.machine.specs.Steps.{callNow, nextNow, Line, lineNow, Turn, s
 use Rattle.machine.specs.Run.{turn, state}
 use Rattle.machine.specs.History.{noticesAt}
 use Rattle.machine.specs.TurnCases.{Then, turn-cases}
-use Rattle.model.specs.Result.{done, refused, Result}
-use Rattle.model.specs.Now.{first, current}
 
 -- after n steps
 pub record GoesFirst (s : Sheet) (n : ℕ) : Type 0 where

@@ -9,6 +9,7 @@ use lib.Dec.{leb, eqb}
 use Rattle.rings.specs.Lists.{if_then_else_, In}
 use Rattle.model.specs.Notices.{Notice, whos, dueOf}
 use Rattle.model.specs.Tables.{Lists}
+use Rattle.model.specs.Now.{current}
 use Rattle.sequencing.specs.NoticeOps.{hasNotice}
 use Rattle.sequencing.specs.Orders.{Before, Next}
 use Rattle.sequencing.specs.Plain.{noEffect}
@@ -17,7 +18,6 @@ use Rattle.machine.specs.Machine.{Machine}
 use Rattle.machine.specs.Calls.{ListCall, onSet, hold, passivate, wait, cancel, activate, ifEmpty, finish, Call, onList, accum}
 use Rattle.machine.specs.Steps.{callNow, Turn, ended, stepped}
 use Rattle.machine.specs.Run.{turn, state}
-use Rattle.model.specs.Now.{current}
 
 -- ---- what a step schedules
 

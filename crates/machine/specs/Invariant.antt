@@ -7,13 +7,13 @@ use Rattle.rings.specs.Lists.{In}
 use Rattle.rings.specs.Distinct.{Dist, joined}
 use Rattle.counts.specs.Counts.{Allowed, total, main}
 use Rattle.model.specs.Notices.{whos, InOrder, Within}
+use Rattle.model.specs.Now.{time}
 use Rattle.accumulator.specs.Runs.{Each}
 use Rattle.sheet.specs.declared.header.Header.{Header}
 use Rattle.sheet.specs.Sheet.{Sheet}
 use Rattle.sheet.specs.Fields.{Ranged}
 use Rattle.machine.specs.Machine.{Machine}
 use Rattle.machine.specs.Steps.{recordOf}
-use Rattle.model.specs.Now.{time}
 
 abbrev pub headerIs : Sheet → Header
 headerIs s = record { counts = s .counts; records = length (s .records) }

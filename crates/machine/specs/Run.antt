@@ -6,12 +6,12 @@ use lib.Dec.{leb, eqb}
 use Rattle.rings.specs.Lists.{if_then_else_}
 use Rattle.counts.specs.declared.Refusal.the-variants.{Size}
 use Rattle.counts.specs.Counts.{main}
+use Rattle.model.specs.Now.{current}
 use Rattle.sheet.specs.Sheet.{Sheet}
 use Rattle.machine.specs.declared.End.{End}
 use Rattle.machine.specs.declared.End.the-variants.{Finished, Full, Refused}
 use Rattle.machine.specs.Machine.{Machine, fresh}
 use Rattle.machine.specs.Steps.{recordNow, Line, Turn, ended, stepped, step}
-use Rattle.model.specs.Now.{current}
 
 -- "main current at position 0, finished"
 abbrev pub atEnd : Sheet → Machine → Bool

@@ -1,5 +1,7 @@
 -- A turn comes to an end, or to a step: to show something of a turn is to show it of both.
 use Rattle.rings.specs.Lists.{test}
+use Rattle.model.specs.Result.{done, refused, Result}
+use Rattle.model.specs.Now.{current}
 use Rattle.sheet.specs.Sheet.{Sheet}
 use Rattle.machine.specs.declared.End.{End}
 use Rattle.machine.specs.declared.End.the-variants.{Finished, Refused}
@@ -7,8 +9,6 @@ use Rattle.machine.specs.Machine.{Machine, withPosition}
 use Rattle.machine.specs.Calls.{perform}
 use Rattle.machine.specs.Steps.{callNow, nextNow, lineNow, Turn, ended, stepped, moving, step}
 use Rattle.machine.specs.Run.{atEnd, turn}
-use Rattle.model.specs.Result.{done, refused, Result}
-use Rattle.model.specs.Now.{current}
 
 -- refused, or done with a machine of which Q holds
 abbrev pub Then : (Machine → Type 0) → Result Machine → Type 0

@@ -14,9 +14,11 @@ use Rattle.counts.specs.Counts.{total, isHead}
 use Rattle.model.specs.declared.answer.Answer.{Answer}
 use Rattle.model.specs.declared.answer.Answer.the-variants.{Done}
 use Rattle.model.specs.Tables.{Tables, After}
+use Rattle.model.specs.Now.{timeOf, half}
 use Rattle.sets.specs.Procedures.{emptyOf}
 use Rattle.sets.specs.Calls.{Linked, toldIf, outStep, followStep, precedeStep, intoStep, clearStep}
 use Rattle.sets.specs.Promise.{Moved}
+use Rattle.sets.specs.Plain.{linksAfter, clear, into, precede, follow, out, SetCall}
 use Rattle.sequencing.specs.Procedures.{Sqs, dueAt, activated}
 use Rattle.sequencing.specs.Promise.{sqs, Answers}
 use Rattle.sequencing.specs.StepPromise.{FinishMade, WaitMade}
@@ -31,8 +33,6 @@ use Rattle.runs.specs.declared.Effect.the-variants.{Stays, Jumps, Moves}
 use Rattle.runs.specs.Run.{resolved, callDue}
 use Rattle.runs.specs.Performed.{listEffect, callEffect, effectOf, unlessRefused, branched, performed}
 use Rattle.runs.specs.Which as which
-use Rattle.model.specs.Now.{timeOf, half}
-use Rattle.sets.specs.Plain.{linksAfter, clear, into, precede, follow, out, SetCall}
 
 direct : (c : Counts) (x y : ℕ) (t : ℤ) (marks : List ℕ) (s : Sqs) → timedStep c false 0 x 0 (pos 0) marks s ≡ timedStep c false 0 x y t marks s
 unfolding timedStep activated dueAt

@@ -16,6 +16,7 @@ use Rattle.model.specs.declared.answer.Answer.{Answer}
 use Rattle.model.specs.declared.answer.Answer.the-variants.{Done, Linkage, Number, Truth, Refused as NotDone}
 use Rattle.model.specs.declared.verdict.Verdict.the-variants.{Fine, Refused as Judged}
 use Rattle.model.specs.Tables.{Tables}
+use Rattle.model.specs.Now.{half, firstOf}
 use Rattle.sets.specs.Procedures.{emptyOf}
 use Rattle.sheet.specs.declared.records.Record.{Record}
 use Rattle.sheet.specs.Sheet.{recordOffset}
@@ -36,7 +37,6 @@ use Rattle.runs.specs.StepIs.{Went}
 use Rattle.runs.specs.Turning.{Turning, turning-then}
 use Rattle.runs.specs.Running.{Here, here-at, ends, turned-down, goes-on}
 use Rattle.runs.specs.Paused.{leftBy, isFull, isDue, Paused}
-use Rattle.model.specs.Now.{half, firstOf}
 
 -- ---- by what the call came to
 

@@ -98,7 +98,8 @@ module _ (c : Counts) (bytes : List ℕ) where
   turns-lines n (suc k) u tr =
       test (endsNow c (u .model .axis) (u .positions))
       (λ e. rw e (omega arith))
-      (λ e. rw e (go (stepOn c bytes (16 * n) u tr .turned) (turns-lines (suc n) k (stepOn c bytes (16 * n) u tr .run) (stepOn c bytes (16 * n) u tr .trace))))
+      (λ e. rw e (go (stepOn c bytes (16 * n) u tr .turned)
+      (turns-lines (suc n) k (stepOn c bytes (16 * n) u tr .run) (stepOn c bytes (16 * n) u tr .trace))))
     where
       go : (d : Turned) → suc n ≤ turnsOn c bytes (suc n) k (stepOn c bytes (16 * n) u tr .run)
           (stepOn c bytes (16 * n) u tr .trace) .result .lines

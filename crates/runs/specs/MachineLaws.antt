@@ -10,6 +10,7 @@ use Rattle.rings.specs.Lists.{below}
 use Rattle.model.specs.Formed.{notice-each, notice-process}
 use Rattle.model.specs.Once.{links-once, set-links}
 use Rattle.model.specs.Fresh.{freshTables, fresh-spells}
+use Rattle.model.specs.Now.{time}
 use Rattle.accumulator.specs.Keeps.{zero-accumulator}
 use Rattle.accumulator.specs.Runs.{fresh-each}
 use Rattle.sheet.specs.Sheet.{countsOf, recordsOf, startAt, Sheet, sheetOf}
@@ -24,7 +25,6 @@ use Rattle.machine.specs.HistoryLaw.{ties-of}
 use Rattle.machine.specs.Invariant.{InRange, Invariant}
 use Rattle.machine.specs.GoesFirst.{GoesFirst, goes-first}
 use Rattle.runs.specs.MachineTurns.{Going, turn-going, turn-stepwise, turn-forward}
-use Rattle.model.specs.Now.{time}
 
 -- after n steps
 pub record Laws (s : Sheet) (n : ℕ) : Type 0 where

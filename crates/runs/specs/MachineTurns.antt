@@ -17,6 +17,8 @@ use Rattle.model.specs.Notices.{whos}
 use Rattle.model.specs.Formed.{notice-each, notice-process}
 use Rattle.model.specs.Once.{spelled-sized}
 use Rattle.model.specs.NowLaws.{splits}
+use Rattle.model.specs.Result.{Follows, done, refused, Result}
+use Rattle.model.specs.Now.{time, current}
 use Rattle.sequencing.specs.Forward.{Later}
 use Rattle.accumulator.specs.declared.Updated.{Updated}
 use Rattle.accumulator.specs.declared.Updated.the-variants.{To, Refused as NotUpdated}
@@ -35,13 +37,11 @@ use Rattle.machine.specs.Steps.{recordOf, recordNow, nextOf, callNow, nextNow, 
 use Rattle.machine.specs.Run.{turn, onward}
 use Rattle.machine.specs.History.{Stepwise, placing, placingOf, listPlacing, ifStepped}
 use Rattle.machine.specs.StepLaws.{stepwise-same}
-use Rattle.machine.specs.TurnCases.{Then, turn-cases}
 use Rattle.machine.specs.CallLaws.{Notices, call-notices, call-forward}
 use Rattle.runs.specs.OnTables.{tablesAfter}
 use Rattle.runs.specs.PerformFollows.{lists-follow}
 use Rattle.machine.specs.Invariant.{headerIs, InRange}
-use Rattle.model.specs.Result.{Follows, done, refused, Result}
-use Rattle.model.specs.Now.{time, current}
+use Rattle.machine.specs.TurnCases.{Then, turn-cases}
 
 -- the lists are those of some well-formed tables
 abbrev pub Spelled : Counts → Lists → Type 0

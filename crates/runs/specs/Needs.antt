@@ -10,10 +10,10 @@ use Rattle.counts.specs.declared.Counts.{Counts}
 use Rattle.counts.specs.Counts.{Allowed, total}
 use Rattle.model.specs.Tables.{Tables}
 use Rattle.model.specs.Ready.{Ready}
+use Rattle.model.specs.Now.{half, timeOf, firstOf}
 use Rattle.sheet.specs.Sheet.{recordFrom}
 use Rattle.sheet.specs.Accepted.{isOperand}
 use Rattle.sheet.specs.Fields.{Ranged}
-use Rattle.model.specs.Now.{half, timeOf, firstOf}
 
 -- to resolve an operand: counts within their limits, a sound table of links, and current at a place of the axis
 pub record Resolvable (c : Counts) (links : List ℕ) (f : ℕ) : Type 0 where

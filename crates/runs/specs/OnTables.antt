@@ -9,13 +9,13 @@ use Rattle.counts.specs.Counts.{isHead, linkageAt}
 use Rattle.model.specs.declared.answer.Answer.{Answer}
 use Rattle.model.specs.declared.answer.Answer.the-variants.{Done}
 use Rattle.model.specs.Tables.{Tables, After}
+use Rattle.model.specs.Now.{timeOf, firstOf, half}
 use Rattle.sets.specs.Procedures as sets
 use Rattle.sets.specs.Calls.{toldIf, onLinks}
+use Rattle.sets.specs.Plain.{linksAfter}
 use Rattle.sequencing.specs.Calls.{holdStep, passivateStep, cancelStep, timedStep, finishStep, waitStep, onSqs, onMarks, onSets}
 use Rattle.accumulator.specs.Flat.{updatedIn}
 use Rattle.machine.specs.Calls.{ListCall, onSet, hold, passivate, wait, cancel, activate, ifEmpty, finish, Call, onList, accum}
-use Rattle.model.specs.Now.{timeOf, firstOf, half}
-use Rattle.sets.specs.Plain.{linksAfter}
 
 -- ---- reading
 

@@ -10,8 +10,11 @@ use Rattle.model.specs.declared.answer.Answer.{Answer}
 use Rattle.model.specs.declared.answer.Answer.the-variants.{Done, Refused}
 use Rattle.model.specs.Tables.{Tables, Lists, After, Sized, Spells}
 use Rattle.model.specs.Answers.{called}
+use Rattle.model.specs.Result.{Follows, done, refused, Result}
+use Rattle.model.specs.Now.{time}
 use Rattle.sets.specs.Calls.{onLinks}
 use Rattle.sets.specs.Meaning.{called-is, set-means}
+use Rattle.sets.specs.Plain.{setCall, linksAfter}
 use Rattle.sequencing.specs.Plain as plain
 use Rattle.sequencing.specs.Calls.{holdStep, passivateStep, cancelStep, timedStep, finishStep, waitStep, onSqs, onMarks, onSets}
 use Rattle.sequencing.specs.Meaning.{hold-means, passivate-means, wait-means, cancel-means, timed-means, finish-means}
@@ -24,9 +27,6 @@ use Rattle.machine.specs.Machine.{Machine}
 use Rattle.machine.specs.Calls.{ListCall, onSet, hold, passivate, wait, cancel, activate, ifEmpty, finish, Call, onList, accum, listsAfter, lifted, storing, perform}
 use Rattle.runs.specs.OnTables.{tablesAfter, Carried, carriedOut}
 use Rattle.runs.specs.Resolving.{time-at}
-use Rattle.model.specs.Result.{Follows, done, refused, Result}
-use Rattle.model.specs.Now.{time}
-use Rattle.sets.specs.Plain.{setCall, linksAfter}
 
 -- ---- the calls on lists
 

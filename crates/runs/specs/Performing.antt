@@ -9,6 +9,7 @@ use lib.ListN.{length, getD}
 use Rattle.counts.specs.declared.Counts.{Counts}
 use Rattle.counts.specs.Counts.{limit}
 use Rattle.model.specs.Tables.{Tables}
+use Rattle.model.specs.Now.{half}
 use Rattle.sequencing.specs.Promise.{Noticed, Judged, Takeable, ready-judged, ready-takeable}
 use Rattle.sheet.specs.declared.records.Record.{Record}
 use Rattle.sheet.specs.Sheet.{recordOffset, recordFrom}
@@ -17,7 +18,6 @@ use Rattle.runs.specs.Performed.{Performed, performed}
 use Rattle.runs.specs.Tried.{tried}
 use Rattle.runs.specs.Needs.{Resolvable, Readable, Callable, Performable}
 use Rattle.runs.specs.Reads.{got-record}
-use Rattle.model.specs.Now.{half}
 
 module _ (c : Counts) (bytes : List ℕ) (i f : ℕ) (t : Tables) (p : Callable c bytes i f t) where
   resolvable : Resolvable c (t .links) f

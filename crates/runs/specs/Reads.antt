@@ -12,6 +12,7 @@ use Rattle.rings.specs.Lists.{decide, below}
 use Rattle.counts.specs.declared.Counts.{Counts}
 use Rattle.counts.specs.declared.Refusal.the-variants.{Operand}
 use Rattle.counts.specs.Counts.{total, isHead}
+use Rattle.model.specs.Now.{half, firstOf}
 use Rattle.sets.specs.Procedures.{linkOr}
 use Rattle.sheet.specs.declared.records.Record.{Record}
 use Rattle.sheet.specs.Sheet.{recordOffset, recordFrom, recordWith}
@@ -22,7 +23,6 @@ use Rattle.runs.specs.Run.{endRecord, recordGot, endsNow}
 use Rattle.runs.specs.declared.Effect.the-variants.{Stays, Jumps, Refused}
 use Rattle.runs.specs.Performed.{branched}
 use Rattle.runs.specs.Needs.{Resolvable}
-use Rattle.model.specs.Now.{half, firstOf}
 
 and-false : (a : Bool) → (a && false) ≡ false
 and-false true = refl

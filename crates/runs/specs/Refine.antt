@@ -13,6 +13,7 @@ use Rattle.rings.specs.Lists.{decide}
 use Rattle.counts.specs.declared.Counts.{Counts}
 use Rattle.counts.specs.Counts.{main, isHead, linkageAt}
 use Rattle.model.specs.Tables.{Lists, Sized, membersOf}
+use Rattle.model.specs.Now.{time, current, half, firstOf}
 use Rattle.sets.specs.Procedures.{emptyOf}
 use Rattle.sets.specs.Sets.{noLinks}
 use Rattle.sheet.specs.declared.records.Record.{Record}
@@ -28,7 +29,6 @@ use Rattle.runs.specs.OnTables.{operandAt}
 use Rattle.runs.specs.Resolving.{current-at, time-at, operand-plain, operand-at, empty-at}
 use Rattle.runs.specs.Run.{RunTables, resolved, callDue, recordAtNow, lineIn, endsNow}
 use Rattle.runs.specs.Standing.{Stands, Standing, sized, ready, its-range}
-use Rattle.model.specs.Now.{time, current, half, firstOf}
 
 -- the bytes of a line
 abbrev pub bytesOf : Line → List ℕ

@@ -14,6 +14,8 @@ use Rattle.rings.specs.Stores.{sucs, pres, suc-at}
 use Rattle.counts.specs.declared.Counts.{Counts}
 use Rattle.counts.specs.Counts.{total, isHead}
 use Rattle.model.specs.Tables.{Tables, Lists, Sized, setHead, membersOf, SpellsSets, Spells}
+use Rattle.model.specs.NowLaws.{current-now, time-now}
+use Rattle.model.specs.Now.{time, current, timeOf, half}
 use Rattle.sets.specs.Procedures as procedures
 use Rattle.sets.specs.Sets.{noLinks}
 use Rattle.sets.specs.Laws.{set-head}
@@ -23,8 +25,6 @@ use Rattle.sheet.specs.Accepted.{isOperand}
 use Rattle.sheet.specs.Fields.{operand-high}
 use Rattle.machine.specs.Steps.{firstIn, operandOf}
 use Rattle.runs.specs.OnTables.{currentAt, firstAt, operandWith, operandAt}
-use Rattle.model.specs.NowLaws.{current-now, time-now}
-use Rattle.model.specs.Now.{time, current, timeOf, half}
 
 -- the successor of a head is its first member, none where it has none
 first-of : (m H : ℕ) (sets : List (List ℕ)) (t : List ℕ) → SpellsSets m H sets t → (h : ℕ) → Head m (setHead H) h → procedures.sucOf H h t ≡ firstIn (membersOf sets h)

@@ -18,6 +18,7 @@ use Rattle.model.specs.declared.verdict.Verdict.{Verdict}
 use Rattle.model.specs.declared.verdict.Verdict.the-variants.{Fine, Refused as Judged}
 use Rattle.model.specs.Tables.{Tables}
 use Rattle.model.specs.Judge.{lengthsFine, judged, positionsJudged}
+use Rattle.model.specs.Now.{half, timeOf, firstOf}
 use Rattle.sets.specs.Procedures.{emptyOf}
 use Rattle.sheet.specs.declared.header.Checked.{Checked}
 use Rattle.sheet.specs.declared.header.Checked.the-variants.{Accepted, Refused as NotAccepted}
@@ -31,7 +32,6 @@ use Rattle.machine.specs.Calls.{Call, onList, finish}
 use Rattle.machine.specs.Steps.{callOf, nextOf}
 use Rattle.runs.specs.OnTables.{operandWith, Carried, carriedOut}
 use Rattle.runs.specs.declared.Ran.{Ran}
-use Rattle.model.specs.Now.{half, timeOf, firstOf}
 
 -- a run's lent tables: the model's four, the positions ("P + 1 words of 32 bits, place 0 zero"), and the words of 64 accumulators
 pub record RunTables : Type 0 where

@@ -9,6 +9,7 @@ use lib.ListN.{length, getD, set}
 use lib.Seq.{set-getD}
 use Rattle.counts.specs.declared.Counts.{Counts}
 use Rattle.counts.specs.declared.Refusal.{Refusal}
+use Rattle.model.specs.Now.{half, timeOf, firstOf}
 use Rattle.sheet.specs.Sheet.{recordOffset}
 use Rattle.machine.specs.declared.End.the-variants.{Refused}
 use Rattle.runs.specs.declared.Effect.the-variants.{Refused as NotDone}
@@ -19,7 +20,6 @@ use Rattle.runs.specs.Reads.{ends-at}
 use Rattle.runs.specs.Standing.{its-step}
 use Rattle.runs.specs.StepIs.{Went, stayed, step-off, step-on, step-stays}
 use Rattle.runs.specs.Turning.{Turning, turning-on, turning-at, step-refused}
-use Rattle.model.specs.Now.{half, timeOf, firstOf}
 
 pub record Here (c : Counts) (u : RunTables) (f time r : ℕ) : Type 0 where
   pub place-is : f ≡ firstOf (half c) (u .model .axis)

@@ -18,8 +18,10 @@ use Rattle.model.specs.declared.answer.Answer.the-variants.{Done, Linkage, Numb
 use Rattle.model.specs.Notices.{Notice}
 use Rattle.model.specs.Tables.{Tables, After}
 use Rattle.model.specs.Fresh.{freshHeads, freshAxis, freshTables}
+use Rattle.model.specs.Result.{done, refused, Result}
 use Rattle.sets.specs.Procedures.{followOn, followed, precedeOn, preceded}
 use Rattle.sets.specs.Calls.{followStep, intoStep}
+use Rattle.sets.specs.Plain.{into, follow}
 use Rattle.sequencing.specs.Plain.{dueFor, placed, noEffect, timed}
 use Rattle.sequencing.specs.Plain as plain
 use Rattle.sequencing.specs.Procedures.{seekFrom, found, dropOn, putOn, heldAt, held, passivated, cancelled, vain, dueAt, placeFor, putByClause, activated}
@@ -27,8 +29,6 @@ use Rattle.sequencing.specs.Calls.{holdStep, timedStep}
 use Rattle.machine.specs.Machine.{Machine, fresh}
 use Rattle.machine.specs.Calls.{ListCall, onSet, hold, activate, onList, listsAfter, perform}
 use Rattle.runs.specs.OnTables.{tablesAfter}
-use Rattle.model.specs.Result.{done, refused, Result}
-use Rattle.sets.specs.Plain.{into, follow}
 
 -- ---- a model with one head, S, and four processes: M is main; A, B, C are processes
 

@@ -11,6 +11,7 @@ use Rattle.counts.specs.Counts.{Allowed}
 use Rattle.model.specs.Tables.{Tables, Sized, Spells}
 use Rattle.model.specs.Ready.{Ready, formed-ready}
 use Rattle.model.specs.Once.{spelled-sized}
+use Rattle.model.specs.Now.{half, timeOf, firstOf}
 use Rattle.sequencing.specs.Promise.{Judged, ready-judged}
 use Rattle.accumulator.specs.Triples.{flat, flat-length}
 use Rattle.sheet.specs.Sheet.{countsOf, recordsOf, recordOffset, recordWith}
@@ -20,7 +21,6 @@ use Rattle.sheet.specs.Ranges.{allowed-counts, record-inside, record-in}
 use Rattle.machine.specs.Machine.{Machine}
 use Rattle.runs.specs.Run.{RunTables, recordAtNow}
 use Rattle.runs.specs.Needs.{Callable, Performable}
-use Rattle.model.specs.Now.{half, timeOf, firstOf}
 
 -- these tables are the machine's: its lists spelled, "place 0 zero" and its positions, its triples' words
 pub record Stands (c : Counts) (R : ℕ) (m : Machine) (u : RunTables) : Type 0 where

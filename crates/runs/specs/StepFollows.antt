@@ -14,6 +14,8 @@ use Rattle.counts.specs.declared.Refusal.the-variants.{Operand}
 use Rattle.counts.specs.Counts.{main, isHead}
 use Rattle.model.specs.declared.answer.Answer.{Answer}
 use Rattle.model.specs.Tables.{Tables, Lists, Spells}
+use Rattle.model.specs.Now.{current, half, firstOf}
+use Rattle.model.specs.Result.{done, refused, Result}
 use Rattle.accumulator.specs.Triples.{flat}
 use Rattle.sheet.specs.declared.records.Record.{Record}
 use Rattle.sheet.specs.Sheet.{countsOf, recordsOf, recordWith, Sheet, sheetOf}
@@ -23,16 +25,14 @@ use Rattle.trace.specs.Lines.{put}
 use Rattle.machine.specs.Machine.{Machine, withPosition}
 use Rattle.machine.specs.Calls.{ifEmpty, Call, onList, listsAfter, perform}
 use Rattle.machine.specs.Steps.{operandOf, callOf, nextOf, recordOf, recordNow, itsCall, itsNext, callNow, nextNow, lineNow}
+use Rattle.machine.specs.TurnCases.{Then}
 use Rattle.runs.specs.OnTables.{Carried, carriedOut}
 use Rattle.runs.specs.PerformFollows.{FollowsRun, perform-follows}
-use Rattle.machine.specs.TurnCases.{Then}
 use Rattle.runs.specs.MachineTurns.{perform-sizes, next-in, set-in}
 use Rattle.runs.specs.MachineLaws.{accepted-range}
 use Rattle.runs.specs.Run.{RunTables, Turned, On, Off, recordGot, resolved, callDue, turnedOf, Stepped, moved, recordAtNow, dueIn, lineIn, stepOn}
 use Rattle.runs.specs.Standing.{Stands, ready, now-in}
 use Rattle.runs.specs.Refine.{bytesOf, stood, fit, current-is, record-is, line-is, listAfter, some-call, some-next}
-use Rattle.model.specs.Now.{current, half, firstOf}
-use Rattle.model.specs.Result.{done, refused, Result}
 
 -- an accepted 12 has a head
 head-done : (c : Counts) (x : ℕ) (m k : Machine) → perform c (onList (ifEmpty x)) m ≡ done k → isHead c x ≡ true

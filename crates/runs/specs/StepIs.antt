@@ -14,6 +14,7 @@ use Rattle.counts.specs.Counts.{linkageAt, both}
 use Rattle.model.specs.declared.answer.Answer.{Answer}
 use Rattle.model.specs.declared.answer.Answer.the-variants.{Done, Linkage, Number, Truth, Refused as NotDone}
 use Rattle.model.specs.Tables.{Tables}
+use Rattle.model.specs.Now.{half, timeOf, firstOf}
 use Rattle.sets.specs.Procedures.{emptyOf}
 use Rattle.sheet.specs.declared.records.Record.{Record}
 use Rattle.trace.specs.Lines.{put, lineBytes}
@@ -25,7 +26,6 @@ use Rattle.runs.specs.declared.Effect.the-variants.{Stays, Jumps, Moves,
 use Rattle.runs.specs.Run.{RunTables, Turned, On, Off, recordGot, resolved, callDue, turnedOf, moved, recordAtNow, dueIn, lineIn, stepOn}
 use Rattle.runs.specs.Performed.{callEffect, stays-or-moves, effectOf, unlessRefused, Performed, performed, turnedBy}
 use Rattle.runs.specs.Which.{call-12}
-use Rattle.model.specs.Now.{half, timeOf, firstOf}
 
 -- after an accepted call the process at place f is at next, and its line stands at byte i
 pub record Went (c : Counts) (f time r i next : ℕ) (ps tr ps′ tr′ : List ℕ) : Type 0 where

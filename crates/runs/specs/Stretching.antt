@@ -15,6 +15,7 @@ use Rattle.counts.specs.declared.Counts.{Counts}
 use Rattle.counts.specs.declared.Refusal.{Refusal}
 use Rattle.counts.specs.Counts.{linkageAt}
 use Rattle.model.specs.Tables.{Tables}
+use Rattle.model.specs.Now.{half, firstOf}
 use Rattle.sheet.specs.declared.records.Record.{Record}
 use Rattle.sheet.specs.Sheet.{recordOffset}
 use Rattle.trace.specs.Lines.{put, lineBytes}
@@ -31,7 +32,6 @@ use Rattle.runs.specs.Standing.{Standing, place-in, positions-length, nu
 use Rattle.runs.specs.StepIs.{Went, stayed}
 use Rattle.runs.specs.Turning.{Turning, turning-start, line-fits, same-lengths}
 use Rattle.runs.specs.Running.{Here, positioned, as-positioned, here-positioned, callable, ends, turned-down, goes-on, moved-on, stays-here}
-use Rattle.model.specs.Now.{half, firstOf}
 
 pub record Stretching (c : Counts) (bytes : List ℕ) (n₀ : ℕ) (whole : RanOn) (u₀ : RunTables) (tr₀ : List ℕ) (end at f time r : ℕ) (u : RunTables) (tr : List ℕ) : Type 0 where
   pub turning : Turning c bytes (length tr₀ / 16) (at / 16) whole u₀ tr₀ (positioned u f r) tr

@@ -9,6 +9,8 @@ use lib.Seq.{getD-set-same}
 use Rattle.rings.specs.Lists.{clash}
 use Rattle.counts.specs.declared.Counts.{Counts}
 use Rattle.counts.specs.declared.Refusal.{Refusal}
+use Rattle.model.specs.Now.{current, half, firstOf}
+use Rattle.model.specs.Result.{done, refused, Result}
 use Rattle.sheet.specs.Sheet.{countsOf, sheetOf}
 use Rattle.machine.specs.declared.End.the-variants.{Finished, Full, Refused}
 use Rattle.machine.specs.Machine.{Machine, withPosition}
@@ -18,8 +20,6 @@ use Rattle.runs.specs.OnTables.{Carried, carriedOut}
 use Rattle.runs.specs.Run.{RunTables, Turned, On, Off, Stepped, callDue, turnedOf, moved, dueIn, lineIn, stepOn, endsNow, RanOn, stoppedOn, turnsOn}
 use Rattle.runs.specs.Standing.{Standing, sized, ready, positions-length, words-length}
 use Rattle.runs.specs.StepFollows.{StepIs, step-follows}
-use Rattle.model.specs.Now.{current, half, firstOf}
-use Rattle.model.specs.Result.{done, refused, Result}
 
 -- ---- an accepted step leaves tables of a machine
 

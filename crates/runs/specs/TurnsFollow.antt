@@ -9,6 +9,8 @@ use lib.ListN.{length, take, drop, take-append-drop}
 use Rattle.rings.specs.Lists.{test}
 use Rattle.rings.specs.Distinct.{joined}
 use Rattle.counts.specs.declared.Counts.{Counts}
+use Rattle.model.specs.Result.{done, refused, Result}
+use Rattle.model.specs.Now.{current}
 use Rattle.sheet.specs.Sheet.{countsOf, recordsOf, Sheet, sheetOf}
 use Rattle.sheet.specs.Accepted.{accepted}
 use Rattle.trace.specs.Lines.{put}
@@ -24,8 +26,6 @@ use Rattle.runs.specs.Run.{RunTables, On, Off, Stepped, stepOn, RanOn, s
 use Rattle.runs.specs.Standing.{Stands}
 use Rattle.runs.specs.Refine.{bytesOf, ends-is}
 use Rattle.runs.specs.StepFollows.{StepIs, step-follows}
-use Rattle.model.specs.Result.{done, refused, Result}
-use Rattle.model.specs.Now.{current}
 
 -- the bytes of a list of lines
 abbrev pub linesBytes : List Line → List ℕ

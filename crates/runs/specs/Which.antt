@@ -8,12 +8,12 @@ use lib.Dec.{eqb}
 use borrow.Author.Tests.{eq-eqb, ne-eqb, lt-ltb}
 use Rattle.rings.specs.Lists.{decide}
 use Rattle.counts.specs.declared.Counts.{Counts}
+use Rattle.sets.specs.Plain.{clear, into, precede, follow, out}
 use Rattle.sheet.specs.declared.records.Record.{Record}
 use Rattle.machine.specs.Calls.{onSet, hold, passivate, wait, cancel, activate, ifEmpty, finish, Call, onList, accum}
 use Rattle.machine.specs.Steps.{callOf}
 use Rattle.runs.specs.OnTables.{operandWith}
 use Rattle.runs.specs.Run.{resolved, callDue}
-use Rattle.sets.specs.Plain.{clear, into, precede, follow, out}
 
 module _ (c : Counts) (links : List ℕ) (f : ℕ) (q : Record) where
   abbrev x : ℕ

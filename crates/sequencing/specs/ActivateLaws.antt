@@ -16,6 +16,8 @@ use Rattle.counts.specs.declared.Counts.{Counts}
 use Rattle.counts.specs.Counts.{limit}
 use Rattle.model.specs.Notices.{Notice, whos, dueOf, From, InOrder, Within}
 use Rattle.model.specs.Tables.{Lists}
+use Rattle.model.specs.Result.{need, done, Result}
+use Rattle.model.specs.Now.{first, time}
 use Rattle.sequencing.specs.NoticeOps.{behindAll, frontAll, dropped, hasNotice}
 use Rattle.sequencing.specs.NoticeLaws.{Ins, ins-in, ins-new, drop-none}
 use Rattle.sequencing.specs.PutLaws.{last-ins, front-ins, front-first}
@@ -27,8 +29,6 @@ use Rattle.sequencing.specs.AgreeEnds.{has-in, has-none}
 use Rattle.sequencing.specs.Plain.{withNotices, upTo, leaving, above, isDelay, dueFor, placed, noEffect, timedNeed, named, replaced, timed}
 use Rattle.sequencing.specs.Published.{unlessEmpty, clauseCode, clausePrior, evOut, newNotice, direct, atLeast, atTime, at, beforeOrAfter, byCode, ACTIVATE}
 use Rattle.sequencing.specs.RankLaws.{rank-behind, rank-front}
-use Rattle.model.specs.Result.{need, done, Result}
-use Rattle.model.specs.Now.{first, time}
 
 pub error-is : (l : Lists) (ns : List Notice) → unlessEmpty l ns ≡ leaving l ns
 error-is l [] = refl

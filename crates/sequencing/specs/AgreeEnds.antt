@@ -16,8 +16,11 @@ use Rattle.counts.specs.declared.Refusal.the-variants.{NoNotice}
 use Rattle.counts.specs.Counts.{main, isHead, isProcess}
 use Rattle.model.specs.Notices.{Notice, whos}
 use Rattle.model.specs.Tables.{Tables, Lists, Spells}
+use Rattle.model.specs.Now.{first, current, firstOf, half}
+use Rattle.model.specs.Result.{done, refused}
 use Rattle.sets.specs.Calls.{orNone}
 use Rattle.sets.specs.Sets.{precedeSets}
+use Rattle.sets.specs.Plain.{withSets}
 use Rattle.sequencing.specs.Choice.{and-left, and-right}
 use Rattle.sequencing.specs.NoticeOps.{dropped, hasNotice, rest}
 use Rattle.sequencing.specs.Plain.{withNotices, withTerminated, leaving, passivate, wait, cancel, finish}
@@ -27,10 +30,7 @@ use Rattle.sequencing.specs.Procedures.{Sqs, made, turnedDown, idleAt, l
 use Rattle.sequencing.specs.ByDue.{listed-set}
 use Rattle.sequencing.specs.Places.{SpellsTime, Process, once, is-process, linked, idle-is, drop-spells}
 use Rattle.sequencing.specs.Agree.{withSqs, Agrees, AgreesMarked, respell, first-is, process-first, rest-spells, lone-yes, lone-no, st, kt}
-use Rattle.model.specs.Now.{first, current, firstOf, half}
 use Rattle.sequencing.specs.Calls.{sqsOf}
-use Rattle.model.specs.Result.{done, refused}
-use Rattle.sets.specs.Plain.{withSets}
 
 -- x may be terminated
 abbrev Ended : Counts → ℕ → List Notice → Type 0

@@ -16,6 +16,8 @@ use Rattle.model.specs.Notices.{Notice, whos, dueOf, From, InOrder}
 use Rattle.model.specs.Tables.{Tables, Lists, Spells}
 use Rattle.sets.specs.Calls.{orNone}
 use Rattle.model.specs.Reading.{due-none}
+use Rattle.model.specs.Now.{time, timeOf, half}
+use Rattle.model.specs.Result.{done}
 use Rattle.sequencing.specs.Choice.{and-left, and-right}
 use Rattle.sequencing.specs.NoticeOps.{dropped, hasNotice}
 use Rattle.sequencing.specs.Plain.{withNotices, above, leaving, dueFor, placed, noEffect, timedNeed}
@@ -31,9 +33,7 @@ use Rattle.sequencing.specs.Places.{SpellsTime, Process, is-process, tim
 use Rattle.sequencing.specs.Spots.{Spot, put-spells, found-spot, first-spot, after-spot, before-spot}
 use Rattle.sequencing.specs.Agree.{Agrees, its-time, its-kept, respell, st, time-is}
 use Rattle.sequencing.specs.AgreeEnds.{Party, party, has-in, has-none, idle-has, drop-agrees}
-use Rattle.model.specs.Now.{time, timeOf, half}
 use Rattle.sequencing.specs.Calls.{sqsOf}
-use Rattle.model.specs.Result.{done}
 
 -- ---- numbers and tests
 

@@ -12,11 +12,11 @@ use Rattle.counts.specs.Counts.{total, isHead, isProcess, placeOf, linkageAt}
 use Rattle.model.specs.declared.answer.Answer.{Answer}
 use Rattle.model.specs.declared.answer.Answer.the-variants.{Linkage, Number, Truth, Refused}
 use Rattle.model.specs.Tables.{Tables, After}
+use Rattle.model.specs.Now.{half, timeOf, firstOf}
 use Rattle.sets.specs.Calls.{orNone, toldIf}
 use Rattle.sets.specs.Procedures.{preceded}
 use Rattle.sequencing.specs.Plain.{above, timedNeed}
 use Rattle.sequencing.specs.Procedures.{Sqs, Outcome, made, turnedDown, nextOn, idleAt, lone, dropOn, held, passivated, cancelled, finishedMarks, activated}
-use Rattle.model.specs.Now.{half, timeOf, firstOf}
 
 -- ---- calls that change the sequencing set alone
 

@@ -11,8 +11,8 @@ use Rattle.counts.specs.declared.Refusal.{Refusal}
 use Rattle.counts.specs.declared.Refusal.the-variants.{Operand, NoNotice, TimeLimit}
 use Rattle.counts.specs.Counts.{limit, isHead, isProcess, placeOf}
 use Rattle.model.specs.declared.answer.Answer.the-variants.{Refused}
-use Rattle.model.specs.Now.{half, firstOf, timeOf}
 use Rattle.model.specs.Answers.{called}
+use Rattle.model.specs.Now.{half, firstOf, timeOf}
 use Rattle.model.specs.Result.{KeepsRefused, called-kept}
 use Rattle.sets.specs.Calls.{orNone}
 use Rattle.sequencing.specs.Plain.{above, timedNeed}

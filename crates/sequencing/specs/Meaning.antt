@@ -18,12 +18,16 @@ use Rattle.model.specs.Notices.{Notice}
 use Rattle.model.specs.Tables.{Tables, Lists, Sized, Spells}
 use Rattle.model.specs.Formed.{notice-process}
 use Rattle.model.specs.Answers.{called}
+use Rattle.model.specs.NowLaws.{Split, splits}
+use Rattle.model.specs.Now.{first, current, firstOf, half}
+use Rattle.model.specs.Result.{Follows, done, refused, Result}
 use Rattle.sets.specs.Calls.{orNone}
 use Rattle.sets.specs.Sets.{precedeSets}
 use Rattle.sets.specs.Procedures.{preceded}
 use Rattle.sets.specs.Promise.{none-or, head-in}
 use Rattle.sets.specs.Laws.{sets-preceded}
 use Rattle.sets.specs.Meaning.{called-is, link-of}
+use Rattle.sets.specs.Plain.{withSets}
 use Rattle.sequencing.specs.Plain.{above, hold, passivate, wait, cancel, finish, dueFor, placed, noEffect, timedNeed, timed}
 use Rattle.sequencing.specs.Procedures.{Sqs, Outcome, made, turnedDown, lone, dropOn, passivated, activated}
 use Rattle.sequencing.specs.Calls.{sqsOf, Marked, holdStep, passivateStep, cancelStep, timedStep, finishStep, waitStep, onSqs, onMarks, onSets}
@@ -32,10 +36,6 @@ use Rattle.sequencing.specs.Agree.{withSqs, withMarks, Agrees, AgreesMar
 use Rattle.sequencing.specs.AgreeEnds.{passivate-agrees, cancel-agrees, finish-agrees, lone-leaves, wait-agrees}
 use Rattle.sequencing.specs.Replace.{timedDropFirst, drop-first}
 use Rattle.sequencing.specs.AgreeTimed.{timed-agrees}
-use Rattle.model.specs.NowLaws.{Split, splits}
-use Rattle.model.specs.Now.{first, current, firstOf, half}
-use Rattle.model.specs.Result.{Follows, done, refused, Result}
-use Rattle.sets.specs.Plain.{withSets}
 
 follows-sqs : (c : Counts) (t : Tables) (r : Result Lists) (o : Outcome) → Agrees c t r o → Follows c t r (record { tables = withSqs t (o .left); answer = o .answer })
 follows-sqs c t (refused r) o g = (g .0, ap (withSqs t) (g .1))

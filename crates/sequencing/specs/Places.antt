@@ -21,9 +21,9 @@ use Rattle.model.specs.Notices.{Notice, dueOf, whos, places}
 use Rattle.sequencing.specs.NoticeOps.{dropped}
 use Rattle.sequencing.specs.NoticeLaws.{drop-due}
 use Rattle.model.specs.Reading.{Timed, timed as timed-by, who-place, dist-whos}
+use Rattle.model.specs.Now.{half}
 use Rattle.sequencing.specs.Procedures.{Sqs, dropOn}
 use Rattle.sequencing.specs.ByDue.{listed-set, due-dropped, places-in}
-use Rattle.model.specs.Now.{half}
 
 pub record SpellsTime (c : Counts) (ns : List Notice) (a : Sqs) : Type 0 where
   pub axis : SpellsAxis (half c) (places c ns) (a .axis)

@@ -15,8 +15,8 @@ use Rattle.model.specs.Now.{current, time}
 use Rattle.model.specs.Result.{Result, refused, done, need}
 use Rattle.sets.specs.Sets.{precedeSets}
 use Rattle.sets.specs.Calls.{orNone}
-use Rattle.sequencing.specs.NoticeOps.{behindAll, frontAll, before, after, dropped, hasNotice, rest}
 use Rattle.sets.specs.Plain.{withSets}
+use Rattle.sequencing.specs.NoticeOps.{behindAll, frontAll, before, after, dropped, hasNotice, rest}
 
 abbrev pub withNotices : Lists → List Notice → Lists
 withNotices l ns = record { sets = l .sets; notices = ns; terminated = l .terminated }

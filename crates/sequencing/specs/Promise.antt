@@ -15,8 +15,8 @@ use Rattle.counts.specs.Counts.{limit, Allowed}
 use Rattle.model.specs.Tables.{Tables}
 use Rattle.model.specs.Ready.{Ready}
 use Rattle.model.specs.declared.answer.Answer.{Answer}
-use Rattle.sequencing.specs.Procedures.{Sqs, Outcome, vain, dueAt}
 use Rattle.model.specs.Now.{firstOf, half}
+use Rattle.sequencing.specs.Procedures.{Sqs, Outcome, vain, dueAt}
 
 abbrev pub sqs : List ℕ → List ℕ → Sqs
 sqs a t = record { axis = a; times = t }

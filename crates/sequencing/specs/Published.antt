@@ -12,13 +12,13 @@ use Rattle.rings.specs.Tabulate.{has}
 use Rattle.counts.specs.declared.Refusal.the-variants.{NoNotice}
 use Rattle.model.specs.Notices.{Notice, dueOf}
 use Rattle.model.specs.Tables.{Lists}
+use Rattle.model.specs.Result.{done, refused, Result}
+use Rattle.model.specs.Now.{time, current}
 use Rattle.sets.specs.Sets.{precedeSets}
+use Rattle.sets.specs.Plain.{withSets}
 use Rattle.sequencing.specs.NoticeOps as ops
 use Rattle.sequencing.specs.NoticeOps.{dropped, hasNotice, rest}
 use Rattle.sequencing.specs.Plain.{withNotices, withTerminated, upTo, above, isDelay, named}
-use Rattle.model.specs.Result.{done, refused, Result}
-use Rattle.model.specs.Now.{time, current}
-use Rattle.sets.specs.Plain.{withSets}
 
 abbrev pub ERROR : Result Lists
 ERROR = refused NoNotice
@@ -162,6 +162,7 @@ beforeOrAfter ev X ahead Y l =
     else if eqb X Y then exit l
     else evOut ev X l (besideY ahead Y (newNotice (dueOf Y (l .notices))) (l .notices))
 
+-- "if CODE = .. then", label by label
 abbrev pub byCode : Bool → ℕ → Code → ℤ → ℕ → Bool → Lists → Result Lists
 byCode ev X codeDirect T Y PRIOR l = direct ev X l
 byCode ev X codeDelay T Y PRIOR l = delay ev X T PRIOR l
@@ -169,7 +170,8 @@ byCode ev X codeAt T Y PRIOR l = at ev X T PRIOR l
 byCode ev X codeBefore T Y PRIOR l = beforeOrAfter ev X true Y l
 byCode ev X codeAfter T Y PRIOR l = beforeOrAfter ev X false Y l
 
--- "inspect X do if .. TERMINATED then"; "if REAC then EV := EVENT else if EVENT ≠ none then go to exit"
+-- "inspect X do if .. TERMINATED then"; "if REAC then EV := EVENT else if EVENT ≠ none then go to exit"; "Z := current", for the last
+-- statement alone, "if Z ≠ current then resume (current)"
 unfoldable pub ACTIVATE : Bool → ℕ → Code → ℤ → ℕ → Bool → Lists → Result Lists
 ACTIVATE REAC X CODE T Y PRIOR l =
     if eqb X 0 || has X (l .terminated) then exit l

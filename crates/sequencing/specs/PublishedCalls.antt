@@ -20,8 +20,12 @@ use Rattle.model.specs.Notices.{Notice, whos, InOrder}
 use Rattle.model.specs.Tables.{Tables, Lists, After, Sized, Spells}
 use Rattle.model.specs.Formed.{notice-each, notice-process}
 use Rattle.model.specs.Answers.{called}
+use Rattle.model.specs.Result.{Follows, need, done, Result}
+use Rattle.model.specs.NowLaws.{Split, splits}
+use Rattle.model.specs.Now.{first, time, current}
 use Rattle.sets.specs.Calls.{orNone}
 use Rattle.sets.specs.Sets.{precedeSets}
+use Rattle.sets.specs.Plain.{withSets}
 use Rattle.sequencing.specs.NoticeOps.{behindAll, dropped, hasNotice, rest}
 use Rattle.sequencing.specs.NoticeLaws.{drop-old, drop-none, rest-drop}
 use Rattle.sequencing.specs.AgreeEnds.{has-none}
@@ -33,10 +37,6 @@ use Rattle.sequencing.specs.Published as published
 use Rattle.sequencing.specs.RankLaws.{rank-behind}
 use Rattle.sequencing.specs.ActivateLaws.{error-is, activate-is}
 use Rattle.sequencing.specs.Meaning.{hold-means, passivate-means, wait-means, cancel-means, finish-means, timed-means}
-use Rattle.model.specs.Result.{Follows, need, done, Result}
-use Rattle.model.specs.NowLaws.{Split, splits}
-use Rattle.model.specs.Now.{first, time, current}
-use Rattle.sets.specs.Plain.{withSets}
 
 -- ---- the plain machine's calls are the published procedures
 

@@ -27,12 +27,12 @@ use Rattle.sequencing.specs.NoticeOps.{hasNotice}
 use Rattle.sequencing.specs.Procedures.{Sqs, idleAt}
 use Rattle.sequencing.specs.Calls.{sqsOf, currentTold, timeTold, idleTold, terminatedTold, evtimeTold, nextevTold}
 use Rattle.model.specs.Reading.{who-place}
+use Rattle.model.specs.NowLaws.{Split, splits, current-now, time-now}
+use Rattle.model.specs.Now.{time, current, half}
 use Rattle.sequencing.specs.Places.{SpellsTime, Process, chain, off-head, is-process, times-at, member}
 use Rattle.sequencing.specs.Agree.{its-time, st}
 use Rattle.sequencing.specs.AgreeEnds.{Party, has-in, idle-has}
 use Rattle.sequencing.specs.AgreeTimed.{marks-at}
-use Rattle.model.specs.NowLaws.{Split, splits, current-now, time-now}
-use Rattle.model.specs.Now.{time, current, half}
 
 -- the process of the notice after x's, none where x's is the last
 abbrev pub nextAfter : ℕ → List Notice → ℕ

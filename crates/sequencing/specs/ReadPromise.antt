@@ -17,11 +17,11 @@ use Rattle.counts.specs.declared.Refusal.the-variants.{Idle}
 use Rattle.counts.specs.Counts.{isProcess, placeOf, linkageAt}
 use Rattle.model.specs.declared.answer.Answer.{Answer}
 use Rattle.model.specs.declared.answer.Answer.the-variants.{Linkage, Number, Refused}
+use Rattle.model.specs.Now.{half}
 use Rattle.sequencing.specs.Procedures.{Sqs, Outcome}
 use Rattle.sequencing.specs.Calls.{Marked, Waited, onSqs, onMarks, onSets, currentTold, timeTold, evtimeTold, nextevTold}
 use Rattle.sequencing.specs.Promise.{sqs, Answers, Place, Read}
 use Rattle.sequencing.specs.StepPromise.{FinishMade, WaitMade, process-in}
-use Rattle.model.specs.Now.{half}
 
 -- a process is a place of the axis
 pub is-in : (c : Counts) (x : ℕ) → isProcess c x ≡ true → placeOf c x < half c

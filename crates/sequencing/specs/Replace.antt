@@ -13,6 +13,7 @@ use Rattle.rings.specs.Lists.{if_then_else_, In, decide, below, test}
 use Rattle.counts.specs.declared.Counts.{Counts}
 use Rattle.model.specs.Notices.{Notice, whos, InOrder}
 use Rattle.model.specs.Tables.{Lists}
+use Rattle.model.specs.Result.{need, done, Result}
 use Rattle.sequencing.specs.NoticeOps.{behindAll, frontAll, before, after, dropped, hasNotice}
 use Rattle.sequencing.specs.NoticeLaws.{from-less, drop-from, drop-in}
 use Rattle.sequencing.specs.BesideLaws.{before-none, after-none}
@@ -21,7 +22,6 @@ use Rattle.sequencing.specs.AgreeEnds.{has-none}
 use Rattle.sequencing.specs.StepPromise.{clause-in}
 use Rattle.sequencing.specs.PutLaws.{behind-first, front-first}
 use Rattle.sequencing.specs.Plain.{upTo, leaving, dueFor, placed, noEffect, timedNeed, named, replaced, timed}
-use Rattle.model.specs.Result.{need, done, Result}
 
 -- activate and reactivate in the tables' order
 unfoldable pub timedDropFirst : Counts → Bool → ℕ → ℕ → ℕ → ℤ → Lists → Result Lists

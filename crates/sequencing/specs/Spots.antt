@@ -20,11 +20,11 @@ use Rattle.sequencing.specs.NoticeOps.{before, after}
 use Rattle.sequencing.specs.NoticeLaws.{Ins, ins-due, ins-own}
 use Rattle.sequencing.specs.BesideLaws.{before-ins, after-ins}
 use Rattle.model.specs.Reading.{who-place, length-places}
+use Rattle.model.specs.Now.{half}
 use Rattle.sequencing.specs.Procedures.{Sqs, prevOn, seekFrom, found, putOn}
 use Rattle.sequencing.specs.Seek.{seek-finds}
 use Rattle.sequencing.specs.ByDue.{byDue, by-ins, spotIn, spot-on, behind-spot}
 use Rattle.sequencing.specs.Places.{SpellsTime, Process, head, chain, member, off-head, dist-all, is-process, a-link, timed, unlinked-is, times-set}
-use Rattle.model.specs.Now.{half}
 
 -- ---- a notice is linked behind the place q
 

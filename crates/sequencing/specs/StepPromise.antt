@@ -15,6 +15,7 @@ use Rattle.counts.specs.declared.Refusal.the-variants.{Operand, NoNotice}
 use Rattle.counts.specs.Counts.{total, isHead, isProcess, placeOf, both}
 use Rattle.model.specs.declared.answer.Answer.{Answer}
 use Rattle.model.specs.declared.answer.Answer.the-variants.{Done, Refused}
+use Rattle.model.specs.Now.{firstOf, half}
 use Rattle.sets.specs.Calls.{orNone}
 use Rattle.sets.specs.Procedures.{preceded}
 use Rattle.sets.specs.Promise.{none-or}
@@ -22,7 +23,6 @@ use Rattle.sequencing.specs.Plain.{timedNeed}
 use Rattle.sequencing.specs.Procedures.{Sqs, Outcome, made, turnedDown, dropOn, passivated, finishedMarks}
 use Rattle.sequencing.specs.Calls.{yPlace, Marked, Waited, finishStep, waitStep}
 use Rattle.sequencing.specs.Promise.{sqs, Left, Answers, AnswersMarked, Place, Lone, Judged}
-use Rattle.model.specs.Now.{firstOf, half}
 
 pub record FinishMade (c : Counts) (want : Marked) (axis times marks : List ℕ) (r : Answer) : Type 0 where
   pub is : record { outcome = record { answer = r; left = sqs axis times }; marks = marks } ≡ want

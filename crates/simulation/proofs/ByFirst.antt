@@ -12,6 +12,7 @@ use Rattle.counts.specs.Counts.{limit, isProcess, placeOf}
 use Rattle.rings.specs.Table.{Sound}
 use Rattle.model.specs.declared.answer.Answer.{Answer}
 use Rattle.model.specs.declared.answer.Answer.the-variants.{Done, Refused}
+use Rattle.model.specs.Now.{half}
 use Rattle.sets.specs.Calls.{orNone}
 use Rattle.sequencing.specs.Plain.{above}
 use Rattle.sequencing.specs.Procedures.{putByClause, activated}
@@ -20,7 +21,6 @@ use Rattle.sequencing.specs.Promise.{sqs, Left, Answers, Noticed, Vain, capped-
 use Rattle.sequencing.specs.StepPromise.{need-x, need-plain, refused-3, passed-3}
 use Rattle.simulation.proofs.Arms.{beside-not, due-direct, due-two}
 use Rattle.simulation.proofs.Chained.{active-5, active-0}
-use Rattle.model.specs.Now.{half}
 
 -- its time is the first notice's
 pub active-now : (m x f time : ℕ) (a t marks : List ℕ) (v : Bool) → Vain false 0 x 0 marks a v → v ≡ false → Noticed m f time a t

@@ -12,10 +12,10 @@ ghost use mathlib.Core.Bool.{false};
 ghost use Prim.Native.Nat.{_<_, _≤_};
 ghost use lib.IntN.{pos};
 ghost use Rattle.rings.specs.Table.{Sound};
+ghost use Rattle.model.specs.Now.{half};
 ghost use Rattle.sequencing.specs.Procedures.{activated};
 ghost use Rattle.sequencing.specs.Calls.{timedStep};
 ghost use Rattle.sequencing.specs.Promise.{sqs, Answers, Judged, Noticed};
-ghost use Rattle.model.specs.Now.{half};
 
 // Activate with no clause, where the first notice's place and time are known: where it has an effect, X's notice is the first now.
 fn direct(

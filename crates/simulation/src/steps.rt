@@ -15,12 +15,12 @@ ghost use mathlib.Core.Path.{_≡_};
 ghost use Prim.Native.Nat.{_+_, _-_, _<_, _≤_};
 ghost use Rattle.rings.specs.Table.{Sound};
 ghost use Rattle.counts.specs.Counts.{isProcess, total};
+ghost use Rattle.model.specs.Now.{half};
 ghost use Rattle.sets.specs.Calls.{orNone};
 ghost use Rattle.sequencing.specs.Plain.{timedNeed};
 ghost use Rattle.sequencing.specs.Calls.{yPlace, holdStep, passivateStep, cancelStep, timedStep, finishStep, waitStep};
 ghost use Rattle.sequencing.specs.Promise.{sqs, Answers, Judged, Takeable, Noticed};
 ghost use Rattle.sequencing.specs.StepPromise.{FinishMade, WaitMade};
-ghost use Rattle.model.specs.Now.{half};
 
 // A process, or none.
 pub(crate) fn process_or_none(c: Counts, x: u32) -> bool

@@ -24,6 +24,7 @@ ghost use Prim.Native.Nat.{_+_, _*_, _≤_};
 ghost use lib.IntN.{pos};
 ghost use lib.ListN.{length};
 ghost use Rattle.counts.specs.Counts.{total, limit};
+ghost use Rattle.model.specs.Now.{half};
 ghost use Rattle.sets.specs.Calls.{outStep, followStep, precedeStep, intoStep, clearStep};
 ghost use Rattle.sets.specs.Promise.{Moved};
 ghost use Rattle.sequencing.specs.Calls.{holdStep, cancelStep, timedStep, waitStep};
@@ -33,7 +34,6 @@ ghost use Rattle.accumulator.specs.Flat.{updatedIn};
 ghost use Rattle.sheet.specs.Sheet.{recordFrom};
 ghost use Rattle.runs.specs.OnTables.{operandWith};
 ghost use Rattle.runs.specs.Needs.{Readable};
-ghost use Rattle.model.specs.Now.{half};
 
 pub(crate) fn out_of(c: Counts, sheet: &[u8], i: usize, links: &mut [u32], f: u32) -> Answer
     requires { ⌜ Readable c (now sheet) i (now links) f (recordFrom (now sheet) i .x) ⌝ }

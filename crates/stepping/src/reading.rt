@@ -12,13 +12,13 @@ ghost use mathlib.Core.Bool.{true, _&&_};
 ghost use Prim.Native.Nat.{_+_, _≤_, _<_};
 ghost use lib.Dec.{eqb};
 ghost use lib.ListN.{length, getD};
+ghost use Rattle.model.specs.Now.{half, firstOf};
 ghost use Rattle.sequencing.specs.Promise.{Judged};
 ghost use Rattle.sheet.specs.Sheet.{recordOffset, recordFrom};
 ghost use Rattle.sheet.specs.Accepted.{isOperand};
 ghost use Rattle.runs.specs.OnTables.{operandWith};
 ghost use Rattle.runs.specs.Needs.{Resolvable, Readable};
 ghost use Rattle.runs.specs.Run.{recordGot};
-ghost use Rattle.model.specs.Now.{half, firstOf};
 
 // Current's place in the axis.
 pub fn place_now(c: Counts, axis: &[u32]) -> u32
