@@ -52,7 +52,7 @@ module _ (p : Placing) (old : List Notice) where
   by-leaving l (k ∷ ks) f = f
 
 module _ (c : Counts) (l : Lists) (n : Notice) (ns : List Notice) (e : l .notices ≡ n ∷ ns) (o : InOrder (l .notices)) (d : Dist (whos (l .notices)))
-    (named : In 0 (whos (l .notices)) → ⊥) where
+    (no-zero : In 0 (whos (l .notices)) → ⊥) where
   abbrev old : List Notice
   old = l .notices
 
@@ -117,7 +117,7 @@ module _ (c : Counts) (l : Lists) (n : Notice) (ns : List Notice) (e : l .notice
 
   timed-notices : (again : Bool) (k x y : ℕ) (z : ℤ) → Notices (timedPlacing again k x y l) old (plain.timed c again k x y z l)
   timed-notices again k x y z =
-      subst (Notices (timedPlacing again k x y l) old) (drop-first c again k x y z l o named) (dropped-notices again k x y z)
+      subst (Notices (timedPlacing again k x y l) old) (drop-first c again k x y z l o no-zero) (dropped-notices again k x y z)
 
   pub call-notices : (k : ListCall) → Notices (listPlacing k l) old (listsAfter c k l)
   unfolding listPlacing listsAfter plain.passivate plain.wait plain.cancel plain.finish
@@ -145,6 +145,6 @@ module _ (c : Counts) (l : Lists) (n : Notice) (ns : List Notice) (e : l .notice
   call-forward passivate = passivate-forward l n ns e (rw e at o)
   call-forward (wait y) = wait-forward l n ns e (rw e at o) c y
   call-forward (cancel x) = cancel-forward l n ns e (rw e at o) c x
-  call-forward (activate again k x y z) = timed-forward l n ns e (rw e at o) c named again k x y z
+  call-forward (activate again k x y z) = timed-forward l n ns e (rw e at o) c no-zero again k x y z
   call-forward (ifEmpty x) = set-later (isHead c x) l refl
   call-forward finish = finish-forward l n ns e (rw e at o) c

@@ -48,9 +48,6 @@ axis-layout p =
     below-head x n l = omega arith
 
 module _ (p : ℕ) (axis times marks : List ℕ) where
-  abbrev m : ℕ
-  m = p + 2
-
   abbrev S : ℕ → ℕ
   S = sucs (p + 2) axis
 

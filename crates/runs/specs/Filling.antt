@@ -110,9 +110,6 @@ module _ (bytes : List ℕ) (n : ℕ) (ps : List ℕ) (p : ℕ) (z : Starting by
 -- ---- the call
 
 module _ (bytes : List ℕ) (u : RunTables) (h : Header) where
-  abbrev c : Counts
-  c = h .counts
-
   pub fill-positions : (p : ℕ) → p ≡ h .counts .processes → length (u .positions) ≢ p + 1 → record { run = u; answer = Judged Size } ≡ filledFor (Accepted h) bytes u
   unfolding sizesFine
   fill-positions p e n = rw (ne-eqb (length (u .positions)) (h .counts .processes + 1) (λ q. n (q ∙ ap (λ (k : ℕ). k + 1) (sym e))))

@@ -79,10 +79,10 @@ module _ (c : Counts) (a : Allowed c) (m : Machine) (t : Tables) (s : Spells c (
   unfolding perform updatedAt
   perform-laws (onList k) =
       let f = splits (l .notices) (s .some) in
-      let named : In 0 (whos (l .notices)) → ⊥ = λ i. omega (arith, notice-process c l t s 0 i) in
+      let no-zero : In 0 (whos (l .notices)) → ⊥ = λ i. omega (arith, notice-process c l t s 0 i) in
       go (listsAfter c k l) (lists-follow c l t (spelled-sized c l t s a) s k)
-      (call-notices c l (f .head) (f .rest) (f .is) (s .in-order) (notice-each c l t s) named k)
-      (call-forward c l (f .head) (f .rest) (f .is) (s .in-order) (notice-each c l t s) named k)
+      (call-notices c l (f .head) (f .rest) (f .is) (s .in-order) (notice-each c l t s) no-zero k)
+      (call-forward c l (f .head) (f .rest) (f .is) (s .in-order) (notice-each c l t s) no-zero k)
     where
       go : (r : Result Lists) → Follows c t r (tablesAfter c k t) → Notices (listPlacing k l) (l .notices) r → Later (time l) r
           → Then (Performed c (onList k) m) (lifted m r)

@@ -42,9 +42,6 @@ module _ (c : Counts) (bytes : List ℕ) (u : RunTables) (s : Standing c bytes u
   pub allowed : Allowed c
   allowed = subst Allowed (sym (s .counts)) (allowed-counts bytes (s .ok))
 
-  abbrev t : Tables
-  t = u .model
-
   pub sized : Sized c (u .model)
   sized = spelled-sized c (s .machine .lists) (u .model) (s .stands .model) allowed
 

@@ -1,6 +1,6 @@
 -- The sequencing calls on plain lists: sets, notices and terminated processes. A refusal changes nothing.
 use Prim.Native.Nat.{ℕ, _+_, max}
-use mathlib.Core.Bool.{Bool, true, false, not, _&&_, _||_}
+use mathlib.Core.Bool.{Bool, not, _&&_, _||_}
 use mathlib.Core.List.{List, [], _∷_}
 use lib.Dec.{leb, eqb}
 use lib.IntN.{ℤ, pos, negsuc, _+ℤ_}
@@ -104,9 +104,3 @@ timed c again k x y t l =
     let u = dueFor k y t l in
     need (timedNeed c k x y)
     (if noEffect again k x y l then done l else upTo u (leaving l (replaced k x y u (l .notices))))
-
-abbrev pub activate : Counts → ℕ → ℕ → ℕ → ℤ → Lists → Result Lists
-activate c k x y t l = timed c false k x y t l
-
-abbrev pub reactivate : Counts → ℕ → ℕ → ℕ → ℤ → Lists → Result Lists
-reactivate c k x y t l = timed c true k x y t l

@@ -42,11 +42,8 @@ operand-kinds c v e =
         let m = leb-true (v - 65536) (c .heads) (p .1) in
         (omega arith, omega arith)
 
--- below 65,536 a linkage or none, above it a head
+-- above 65,536 stands a head
 module _ (c : Counts) (a : Allowed c) (v : ℕ) (o : isOperand c v ≡ true) where
-  pub operand-low : v < 65536 → v ≤ total c
-  operand-low l = ⊎-elim (λ k. k) (⊎-elim (λ e. omega arith) (λ p. omega (arith, p .0))) (operand-kinds c v o)
-
   pub operand-high : 65536 < v → (1 ≤ v - 65536) × (v - 65536 ≤ c .heads)
   operand-high l =
       ⊎-elim (λ k. absurd (far k))
