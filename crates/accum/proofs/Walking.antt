@@ -21,18 +21,18 @@ use denote.Signature.{Slot, AllWithin, plain, shrSliceOf}
 use denote.Triple.Walked.{stay-dropped, Goes, Silent, goes-dropped}
 use denote.Ref.{RefT}
 use denote.Slice.{sliceVal}
-use Rattle.counts.specs.declared.Counts.{Counts}
-use Rattle.counts.proofs.Counts as Co
-use Rattle.counts.proofs.Counts.Laws as Co′
+use Rattle.model.specs.declared.Counts.{Counts}
+use Rattle.model.proofs.Counts as Co
+use Rattle.model.proofs.Counts.Laws as Co′
 use Rattle.model.specs.declared.answer.Answer.{Answer}
 use Rattle.model.proofs.answer.Answer as An
 use Rattle.model.proofs.answer.Answer.Laws as An′
-use Rattle.accumulator.specs.declared.Accumulator.{Accumulator}
-use Rattle.accumulator.specs.declared.Kept.{Kept}
-use Rattle.accumulator.proofs.Kept as U
-use Rattle.accumulator.proofs.Kept.Laws as U′
-use Rattle.accumulator.proofs.Accumulator as T
-use Rattle.accumulator.proofs.Accumulator.Laws as T′
+use Rattle.accum_laws.specs.declared.Accumulator.{Accumulator}
+use Rattle.accum_laws.specs.declared.Kept.{Kept}
+use Rattle.accum_laws.proofs.Kept as U
+use Rattle.accum_laws.proofs.Kept.Laws as U′
+use Rattle.accum_laws.proofs.Accumulator as T
+use Rattle.accum_laws.proofs.Accumulator.Laws as T′
 use denote.Struct.Laws as LL
 use denote.Enum.Laws as EL
 

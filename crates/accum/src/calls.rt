@@ -3,20 +3,20 @@ use crate::judge::judge_list;
 use crate::judge::list_fine;
 use crate::judge::number_fine;
 use crate::judge::time_of;
-use accumulator::Accumulator;
-use accumulator::Kept;
-use accumulator::Updated;
-use counts::Counts;
+use accum_laws::Accumulator;
+use accum_laws::Kept;
+use accum_laws::Updated;
+use model::Counts;
 use model::answer::Answer;
 use model::verdict::Verdict;
 use ring::wide;
-use tables::judge::judge_tables;
-use updating::flat::update_in;
-use updating::update::updated;
+use model_judge::judge_tables;
+use accum_update::flat::update_in;
+use accum_update::update::updated;
 ghost use mathlib.Core.Path.{_≡_};
 ghost use Prim.Native.Nat.{_≤_};
-ghost use Rattle.counts.specs.Counts.{limit};
-ghost use Rattle.accumulator.specs.Calls.{accumOne, accumAlone, accumListed};
+ghost use Rattle.model.specs.Counts.{limit};
+ghost use Rattle.accum_laws.specs.Calls.{accumOne, accumAlone, accumListed};
 
 // Accum at a time: the new accumulator, or refusal 7 and the old one.
 pub(crate) fn accum_at_time(x: Accumulator, time: u64, d: i64) -> Kept

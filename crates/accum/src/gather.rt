@@ -1,11 +1,11 @@
 // Accumulators in an array of 64 structs, from a flat list of words and back: the first n of them, three words for each.
-use accumulator::Accumulator;
-use updating::flat::put;
-use updating::flat::taken;
+use accum_laws::Accumulator;
+use accum_update::flat::put;
+use accum_update::flat::taken;
 ghost use mathlib.Core.Path.{_≡_};
 ghost use Prim.Native.Nat.{_*_, _≤_};
 ghost use lib.ListN.{length, take};
-ghost use Rattle.accumulator.specs.Triples.{flat};
+ghost use Rattle.accum_laws.specs.Triples.{flat};
 
 // The first n from the words; zeros behind them.
 pub(crate) fn gather(words: &[i64], n: usize) -> [Accumulator; 64]

@@ -1,15 +1,15 @@
 // What public calls of accum look at before an update: the model's time, and refusals 1, 2 and 3 of a list and a number in it.
-use accumulator::Picked;
-use counts::Counts;
-use counts::Refusal;
+use accum_laws::Picked;
+use model::Counts;
+use model::Refusal;
 use model::answer::Answer;
 use model::verdict::Verdict;
 use ring::wide;
-use tables::judge::judge_tables;
+use model_judge::judge_tables;
 ghost use mathlib.Core.Path.{_≡_};
-ghost use Rattle.model.specs.Ready.{Ready};
-ghost use Rattle.model.specs.Now.{half, timeOf};
-ghost use Rattle.accumulator.specs.Calls.{countFine, listFine, numberFine, listJudged, pickOf};
+ghost use Rattle.model_laws.specs.Ready.{Ready};
+ghost use Rattle.model_laws.specs.Now.{half, timeOf};
+ghost use Rattle.accum_laws.specs.Calls.{countFine, listFine, numberFine, listJudged, pickOf};
 
 // The time of a judged model: that of the first notice.
 pub(crate) fn time_of(c: Counts, links: &[u32], axis: &[u32], times: &[u64], marks: &[u8]) -> u64

@@ -4,16 +4,16 @@ use crate::gather::spread;
 use crate::judge::list_fine;
 use crate::lent::accum_at;
 use crate::lent::accum_one;
-use accumulator::Accumulator;
-use accumulator::Kept;
-use counts::Counts;
-use counts::Refusal;
+use accum_laws::Accumulator;
+use accum_laws::Kept;
+use model::Counts;
+use model::Refusal;
 use model::answer::Answer;
 use ring::wide;
 ghost use mathlib.Core.Path.{_≡_};
 ghost use Prim.Native.Nat.{_≤_};
 ghost use lib.ListN.{take};
-ghost use Rattle.accumulator.specs.Calls.{accumAlone, accumAt, accumListed};
+ghost use Rattle.accum_laws.specs.Calls.{accumAlone, accumAt, accumListed};
 
 // Accum on one accumulator by d, lent to the call.
 pub fn accum_alone_lent(

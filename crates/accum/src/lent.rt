@@ -2,11 +2,11 @@
 use crate::calls::accum_alone;
 use crate::calls::accum_at_time;
 use crate::judge::pick;
-use accumulator::Accumulator;
-use counts::Counts;
+use accum_laws::Accumulator;
+use model::Counts;
 use model::answer::Answer;
 ghost use mathlib.Core.Path.{_≡_};
-ghost use Rattle.accumulator.specs.Calls.{accumAlone, accumAt};
+ghost use Rattle.accum_laws.specs.Calls.{accumAlone, accumAt};
 
 // Accum by d on an accumulator that is lent to the call.
 pub fn accum_one(

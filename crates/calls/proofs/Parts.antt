@@ -4,9 +4,9 @@ use mathlib.Core.Path.{_≡_}
 use native.Mathlib.Omega.{arith}
 use lib.ListN.{length, take, replicate}
 use lib.IntN.{ℤ, pos}
-use Rattle.runs.specs.Parts.{part-length}
-use Rattle.served.specs.declared.head.Sizes.{Sizes}
-use Rattle.served.specs.Contents.{ModelFits, RunFits, Served}
+use Rattle.run_laws.specs.Parts.{part-length}
+use Rattle.calls_served.specs.declared.head.Sizes.{Sizes}
+use Rattle.calls_served.specs.Contents.{ModelFits, RunFits, Served}
 
 -- a part of k entries, for a table of k
 in-part : {A : Type 0} (j k n : ℕ) (v : A) → k ≡ j → j ≤ n → j ≤ length (take k (replicate n v))

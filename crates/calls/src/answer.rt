@@ -1,14 +1,14 @@
-// The calls by their numbers: the runs, and those of `served`.
+// The calls by their numbers: the runs, and those of `calls_served`.
 use crate::run_calls;
-use served::head::Head;
-use served::reply::Reply;
+use calls_served::head::Head;
+use calls_served::reply::Reply;
 
 // Is there such a call?
 pub(crate) fn known(call: u32) -> bool {
     if run_calls::has(call) {
         return true;
     }
-    served::answer::has(call)
+    calls_served::answer::has(call)
 }
 
 // Makes a known call on the tables of its request.
@@ -37,5 +37,5 @@ pub(crate) fn answer(
             trace,
         );
     }
-    served::answer::answer(head, links, axis, times, marks, accums, sheet)
+    calls_served::answer::answer(head, links, axis, times, marks, accums, sheet)
 }

@@ -1,17 +1,17 @@
 // A request that stands in the input, from its contents to its response.
 use crate::answer::answer;
 use ring::wide;
-use served::contents::model_in;
-use served::contents::model_out;
-use served::contents::reply_out;
-use served::contents::run_in;
-use served::contents::run_out;
-use served::head::Head;
-use served::head::Sizes;
-use served::reply::Reply;
+use calls_served::contents::model_in;
+use calls_served::contents::model_out;
+use calls_served::contents::reply_out;
+use calls_served::contents::run_in;
+use calls_served::contents::run_out;
+use calls_served::head::Head;
+use calls_served::head::Sizes;
+use calls_served::reply::Reply;
 ghost use Prim.Native.Nat.{_+_, _≤_};
 ghost use lib.ListN.{length};
-ghost use Rattle.served.specs.Contents.{modelBytes, runBytes, ModelFits, RunFits, Served};
+ghost use Rattle.calls_served.specs.Contents.{modelBytes, runBytes, ModelFits, RunFits, Served};
 
 // Takes the contents in, from `at`, and makes the call on them.
 fn call_on(

@@ -1,11 +1,11 @@
 // Calls 40 and 42: a run of the sheet, going on from the tables of the request; and the tables of a fresh run.
 use model::verdict::Verdict;
-use runner::answer::end_code;
-use runner::fresh::fresh_run;
-use runner::run;
-use served::reply::Reply;
-use served::reply::accepted;
-use served::reply::refused;
+use run::answer::end_code;
+use run::fresh::fresh_run;
+use run::run;
+use calls_served::reply::Reply;
+use calls_served::reply::accepted;
+use calls_served::reply::refused;
 
 pub(crate) fn has(call: u32) -> bool {
     if call == 42 {

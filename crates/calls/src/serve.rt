@@ -7,16 +7,16 @@ use crate::flow::started;
 use crate::flow::stopped;
 use crate::flow::write_out;
 use crate::respond::respond;
-use served::head::HEAD_BYTES;
-use served::head::Head;
-use served::head::contents_bytes;
-use served::head::head_at;
-use served::head::model_fits;
-use served::head::run_fits;
+use calls_served::head::HEAD_BYTES;
+use calls_served::head::Head;
+use calls_served::head::contents_bytes;
+use calls_served::head::head_at;
+use calls_served::head::model_fits;
+use calls_served::head::run_fits;
 ghost use mathlib.Core.Path.{_≡_};
 ghost use mathlib.Core.Bool.{true};
 ghost use lib.ListN.{length};
-ghost use Rattle.served.specs.Contents.{Served};
+ghost use Rattle.calls_served.specs.Contents.{Served};
 ghost use Rattle.calls.specs.Flow.{Within};
 
 // Is the call known, and do its tables fit into the buffers?

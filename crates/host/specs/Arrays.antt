@@ -6,16 +6,16 @@ use native.Mathlib.Omega.{arith}
 use lib.IntN.{pos}
 use lib.ListN.{length, take, replicate, length-replicate}
 use borrow.Author.Tests.{eq-eqb}
-use Rattle.counts.specs.Counts.{Allowed, total}
-use Rattle.model.specs.Judge.{lengthsFine}
+use Rattle.model.specs.Counts.{Allowed, total}
+use Rattle.model_laws.specs.Judge.{lengthsFine}
 use Rattle.sheet.specs.declared.header.Header.{Header}
 use Rattle.sheet.specs.declared.header.Checked.the-variants.{Accepted}
 use Rattle.sheet.specs.Accepted.{checked}
 use Rattle.sheet.specs.Ranges.{checked-yes, allowed-counts}
-use Rattle.runs.specs.Run.{RunTables}
-use Rattle.runs.specs.Fresh.{sizesFine}
-use Rattle.runs.specs.Starting.{Startable}
-use Rattle.runs.specs.Parts.{part-length}
+use Rattle.run_laws.specs.Run.{RunTables}
+use Rattle.run_laws.specs.Fresh.{sizesFine}
+use Rattle.run_laws.specs.Starting.{Startable}
+use Rattle.run_laws.specs.Parts.{part-length}
 
 -- the counts of an accepted sheet are in their limits
 pub header-allowed : (bytes : List ℕ) (h : Header) → checked bytes ≡ Accepted h → Allowed (h .counts)

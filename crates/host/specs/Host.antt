@@ -6,11 +6,11 @@ use mathlib.Core.Bool.{true}
 use mathlib.Core.List.{List, _++_}
 use lib.ListN.{length, drop}
 use borrow.Author.Tests.{lt-leb}
-use Rattle.rings.specs.Lists.{if_then_else_}
-use Rattle.counts.specs.declared.Counts.{Counts}
-use Rattle.counts.specs.declared.Refusal.{Refusal}
-use Rattle.counts.specs.declared.Refusal.the-variants.{Size}
-use Rattle.counts.specs.Refusals.{refusalNumber}
+use Rattle.ring_laws.specs.Lists.{if_then_else_}
+use Rattle.model.specs.declared.Counts.{Counts}
+use Rattle.model.specs.declared.Refusal.{Refusal}
+use Rattle.model.specs.declared.Refusal.the-variants.{Size}
+use Rattle.model.specs.Refusals.{refusalNumber}
 use Rattle.sheet.specs.declared.header.Header.{Header}
 use Rattle.sheet.specs.declared.header.Checked.{Checked}
 use Rattle.sheet.specs.declared.header.Checked.the-variants.{Accepted, Refused as NotAccepted}
@@ -20,12 +20,12 @@ use Rattle.sheet.specs.Ranges.{checked-yes, checked-no}
 use Rattle.machine.specs.Machine.{fresh}
 use Rattle.machine.specs.Run.{call}
 use Rattle.machine.specs.Run as machine
-use Rattle.runs.specs.declared.Ran.{Ran}
-use Rattle.runs.specs.Run.{runOn, judgedRun, endCode, ranNumber}
-use Rattle.runs.specs.TurnsFollow.{linesBytes}
-use Rattle.runs.specs.Fresh.{freshRun, fresh-stands}
-use Rattle.runs.specs.Starting.{startedOn}
-use Rattle.runs.specs.CallFollows.{Agrees, call-agrees, judged-short, by-judge}
+use Rattle.run_laws.specs.declared.Ran.{Ran}
+use Rattle.run_laws.specs.Run.{runOn, judgedRun, endCode, ranNumber}
+use Rattle.run_laws.specs.TurnsFollow.{linesBytes}
+use Rattle.run_laws.specs.Fresh.{freshRun, fresh-stands}
+use Rattle.run_laws.specs.Starting.{startedOn}
+use Rattle.run_laws.specs.CallFollows.{Agrees, call-agrees, judged-short, by-judge}
 
 -- the trace after a call, and the number
 pub record Hosted : Type 0 where

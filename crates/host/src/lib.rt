@@ -2,13 +2,13 @@
 mod start;
 
 use crate::start::start;
-use counts::Refusal;
-use layout::check::check;
+use model::Refusal;
+use sheet_check::check::check;
 use ring::wide;
-use runner::answer::number;
+use run::answer::number;
 use sheet::header::Checked;
 ghost use mathlib.Core.Path.{_≡_};
-ghost use Rattle.counts.specs.Refusals.{refusalNumber};
+ghost use Rattle.model.specs.Refusals.{refusalNumber};
 ghost use Rattle.host.specs.Host.{hosted};
 
 fn refused(q: Refusal) -> u64

@@ -1,11 +1,11 @@
 // A fresh run and its first call in one: the check of the sheet and the tables' lengths are the caller's, and nothing is judged again.
-use filling::fill;
-use runs::Ran;
+use run_fresh::fill;
+use run_laws::Ran;
 use sheet::header::Header;
-use turning::turns::turns;
+use run_turns::turns::turns;
 ghost use mathlib.Core.Path.{_≡_};
-ghost use Rattle.runs.specs.Run.{lent};
-ghost use Rattle.runs.specs.Starting.{Startable, startedOn};
+ghost use Rattle.run_laws.specs.Run.{lent};
+ghost use Rattle.run_laws.specs.Starting.{Startable, startedOn};
 
 // For a sheet that was accepted and tables of its lengths, whatever they hold.
 pub(crate) fn start(

@@ -4,17 +4,17 @@ use mathlib.Core.Bool.{Bool}
 use mathlib.Core.List.{List}
 use lib.IntN.{ℤ}
 use lib.ListN.{set}
-use Rattle.counts.specs.declared.Counts.{Counts}
-use Rattle.counts.specs.Counts.{isHead}
-use Rattle.model.specs.Tables.{Lists}
-use Rattle.model.specs.Result.{need, done, refused, Result}
-use Rattle.model.specs.Now.{time}
-use Rattle.sets.specs.Plain.{SetCall, setCall}
-use Rattle.sequencing.specs.Plain as plain
-use Rattle.accumulator.specs.declared.Updated.{Updated}
-use Rattle.accumulator.specs.declared.Updated.the-variants.{To, Refused}
-use Rattle.accumulator.specs.Update.{updatedOf}
-use Rattle.accumulator.specs.Triples.{numbered}
+use Rattle.model.specs.declared.Counts.{Counts}
+use Rattle.model.specs.Counts.{isHead}
+use Rattle.model_laws.specs.Tables.{Lists}
+use Rattle.model_laws.specs.Result.{need, done, refused, Result}
+use Rattle.model_laws.specs.Now.{time}
+use Rattle.simset_laws.specs.Plain.{SetCall, setCall}
+use Rattle.simulation_laws.specs.Plain as plain
+use Rattle.accum_laws.specs.declared.Updated.{Updated}
+use Rattle.accum_laws.specs.declared.Updated.the-variants.{To, Refused}
+use Rattle.accum_laws.specs.Update.{updatedOf}
+use Rattle.accum_laws.specs.Triples.{numbered}
 use Rattle.machine.specs.Machine.{Machine, withLists, withTriples}
 
 -- ---- the calls of a step: a record's, with its operands resolved, or finish

@@ -6,13 +6,13 @@ use mathlib.Core.Logic.{_≢_}
 use mathlib.Core.Bool.{Bool, false, not, _&&_, _||_}
 use mathlib.Core.List.{List}
 use lib.Dec.{leb, eqb}
-use Rattle.rings.specs.Lists.{if_then_else_, In}
-use Rattle.model.specs.Notices.{Notice, whos, dueOf}
-use Rattle.model.specs.Tables.{Lists}
-use Rattle.model.specs.Now.{current}
-use Rattle.sequencing.specs.NoticeOps.{hasNotice}
-use Rattle.sequencing.specs.Orders.{Before, Next}
-use Rattle.sequencing.specs.Plain.{noEffect}
+use Rattle.ring_laws.specs.Lists.{if_then_else_, In}
+use Rattle.model_laws.specs.Notices.{Notice, whos, dueOf}
+use Rattle.model_laws.specs.Tables.{Lists}
+use Rattle.model_laws.specs.Now.{current}
+use Rattle.simulation_laws.specs.NoticeOps.{hasNotice}
+use Rattle.simulation_laws.specs.Orders.{Before, Next}
+use Rattle.simulation_laws.specs.Plain.{noEffect}
 use Rattle.sheet.specs.Sheet.{Sheet}
 use Rattle.machine.specs.Machine.{Machine}
 use Rattle.machine.specs.Calls.{ListCall, onSet, hold, passivate, wait, cancel, activate, ifEmpty, finish, Call, onList, accum}

@@ -1,14 +1,8 @@
--- The plain machine of demand 3, on lists alone: its calls, steps and runs, what each call does to the notices, and the order of ties.
+-- The plain machine of demand 3, on lists alone: its calls, steps and runs, when and how a notice was scheduled, and worked examples.
 pub mod Machine
 pub mod Calls
 pub mod Steps
 pub mod Run
-pub mod Uncut
 pub mod History
-pub mod HistoryLaw
-pub mod StepLaws
-pub mod CallLaws
-pub mod Invariant
-pub mod TurnCases
-pub mod GoesFirst
 pub mod Worked
+pub mod WorkedHistory

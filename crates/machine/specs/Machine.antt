@@ -3,12 +3,12 @@
 use Prim.Native.Nat.{ℕ, _-_}
 use mathlib.Core.List.{List}
 use lib.ListN.{getD, set, replicate}
-use Rattle.counts.specs.declared.Counts.{Counts}
-use Rattle.counts.specs.Counts.{main}
-use Rattle.model.specs.Tables.{Lists}
-use Rattle.model.specs.Fresh.{freshLists}
-use Rattle.accumulator.specs.declared.Accumulator.{Accumulator}
-use Rattle.accumulator.specs.Keeps.{zero-accumulator}
+use Rattle.model.specs.declared.Counts.{Counts}
+use Rattle.model.specs.Counts.{main}
+use Rattle.model_laws.specs.Tables.{Lists}
+use Rattle.model_laws.specs.Fresh.{freshLists}
+use Rattle.accum_laws.specs.declared.Accumulator.{Accumulator}
+use Rattle.accum_laws.specs.Keeps.{zero-accumulator}
 use Rattle.sheet.specs.Sheet.{Sheet}
 
 pub record Machine : Type 0 where

@@ -3,10 +3,10 @@ use Prim.Native.Nat.{ℕ, zero, suc, _/_}
 use mathlib.Core.Bool.{Bool, _&&_}
 use mathlib.Core.List.{List, [], _∷_, _++_}
 use lib.Dec.{leb, eqb}
-use Rattle.rings.specs.Lists.{if_then_else_}
-use Rattle.counts.specs.declared.Refusal.the-variants.{Size}
-use Rattle.counts.specs.Counts.{main}
-use Rattle.model.specs.Now.{current}
+use Rattle.ring_laws.specs.Lists.{if_then_else_}
+use Rattle.model.specs.declared.Refusal.the-variants.{Size}
+use Rattle.model.specs.Counts.{main}
+use Rattle.model_laws.specs.Now.{current}
 use Rattle.sheet.specs.Sheet.{Sheet}
 use Rattle.machine.specs.declared.End.{End}
 use Rattle.machine.specs.declared.End.the-variants.{Finished, Full, Refused}

@@ -5,12 +5,12 @@ use mathlib.Core.List.{List, [], _∷_}
 use lib.Dec.{ltb, eqb}
 use lib.IntN.{pos}
 use lib.ListN.{getD}
-use Rattle.rings.specs.Lists.{if_then_else_}
-use Rattle.model.specs.Tables.{Lists, membersOf}
-use Rattle.model.specs.Result.{done, refused, Result}
-use Rattle.model.specs.Now.{time, current}
-use Rattle.sets.specs.Sets.{noLinks}
-use Rattle.sets.specs.Plain.{clear, into, precede, follow, out}
+use Rattle.ring_laws.specs.Lists.{if_then_else_}
+use Rattle.model_laws.specs.Tables.{Lists, membersOf}
+use Rattle.model_laws.specs.Result.{done, refused, Result}
+use Rattle.model_laws.specs.Now.{time, current}
+use Rattle.simset_laws.specs.Sets.{noLinks}
+use Rattle.simset_laws.specs.Plain.{clear, into, precede, follow, out}
 use Rattle.sheet.specs.declared.records.Record.{Record}
 use Rattle.sheet.specs.Sheet.{Sheet}
 use Rattle.machine.specs.declared.End.{End}

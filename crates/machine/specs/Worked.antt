@@ -6,11 +6,11 @@ use mathlib.Core.List.{List, [], _∷_}
 use lib.Dec.{eqb}
 use lib.IntN.{ℤ, pos}
 use lib.ListN.{getD}
-use Rattle.counts.specs.Refusals.{refusalNumber}
-use Rattle.sequencing.specs.Plain.{dueFor, placed, noEffect, timed}
-use Rattle.sequencing.specs.Plain as plain
-use Rattle.accumulator.specs.Keeps.{zero-accumulator}
-use Rattle.accumulator.specs.Update.{mayUpdate, grownOf, updatedOf}
+use Rattle.model.specs.Refusals.{refusalNumber}
+use Rattle.simulation_laws.specs.Plain.{dueFor, placed, noEffect, timed}
+use Rattle.simulation_laws.specs.Plain as plain
+use Rattle.accum_laws.specs.Keeps.{zero-accumulator}
+use Rattle.accum_laws.specs.Update.{mayUpdate, grownOf, updatedOf}
 use Rattle.sheet.specs.declared.records.Record.{Record}
 use Rattle.words.specs.Words.{u32At, u64At, i64At}
 use Rattle.sheet.specs.Sheet.{countsOf, recordsOf, startAt, recordFrom, Sheet, sheetOf}

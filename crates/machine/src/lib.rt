@@ -1,5 +1,5 @@
 // The plain machine: what a run of a model sheet means, in specs/. There is no function here, only the type that code and specs share.
-use counts::Refusal;
+use model::Refusal;
 
 // How a run ends.
 pub enum End {

@@ -1,5 +1,5 @@
 // What a call answers.
-use counts::Refusal;
+use crate::Refusal;
 ghost use mathlib.Core.Path.{_≡_};
 ghost use Rattle.model.specs.Answers.{codeOf, valueOf};
 

@@ -1,5 +1,5 @@
 // What a judge says.
-use counts::Refusal;
+use crate::Refusal;
 
 pub enum Verdict {
     Fine,

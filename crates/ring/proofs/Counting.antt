@@ -5,7 +5,7 @@ use mathlib.Core.Logic.{_≢_}
 use mathlib.Core.List.{List}
 use native.Mathlib.Omega.{arith}
 use lib.ListN.{getD}
-use Rattle.rings.specs.Table.{Sound, steps, counted, steps-zero, steps-here, steps-on}
+use Rattle.ring_laws.specs.Table.{Sound, steps, counted, steps-zero, steps-here, steps-on}
 
 pub record Counting (t : List ℕ) (m h n i : ℕ) : Type 0 where
   pub at : i < m

@@ -3,7 +3,7 @@
 ghost use mathlib.Core.Path.{_≡_};
 ghost use Prim.Native.Nat.{_*_, _+_, _<_};
 ghost use lib.ListN.{length, getD};
-ghost use Rattle.rings.specs.Table.{Sound, Made, unlinked, linkedBehind, linkedBefore, selfLinked, counted};
+ghost use Rattle.ring_laws.specs.Table.{Sound, Made, unlinked, linkedBehind, linkedBefore, selfLinked, counted};
 
 // Takes x out of its ring, where pw stands before it; nothing where it stands in none.
 pub fn unlink_behind(t: &mut [u32], m: usize, x: usize, pw: u32)

@@ -5,11 +5,11 @@ use mathlib.Core.List.{List}
 use lib.Dec.{leb, eqb}
 use lib.IntN.{natAbs}
 use lib.ListN.{length}
-use Rattle.rings.specs.Lists.{if_then_else_}
-use Rattle.counts.specs.Counts.{inLimits, total, isHead}
-use Rattle.counts.specs.declared.Counts.{Counts}
-use Rattle.counts.specs.declared.Refusal.the-variants.{Layout}
-use Rattle.counts.specs.Refusals.{refusalNumber}
+use Rattle.ring_laws.specs.Lists.{if_then_else_}
+use Rattle.model.specs.Counts.{inLimits, total, isHead}
+use Rattle.model.specs.declared.Counts.{Counts}
+use Rattle.model.specs.declared.Refusal.the-variants.{Layout}
+use Rattle.model.specs.Refusals.{refusalNumber}
 use Rattle.sheet.specs.AllTo.{allTo}
 use Rattle.words.specs.Words.{u8At}
 use Rattle.sheet.specs.Sheet.{countsOf, recordsOf, startAt, recordOffset, recordFrom}

@@ -3,8 +3,8 @@ use Prim.Native.Nat.{ℕ, zero, suc, _-_, _≤_, _<_}
 use mathlib.Core.Path.{_≡_, sym, ap, subst, _∙_}
 use mathlib.Core.Bool.{Bool, true, false, _&&_}
 use native.Mathlib.Omega.{arith}
-use Rattle.rings.specs.Lists.{decide}
-use Rattle.counts.specs.Counts.{both}
+use Rattle.ring_laws.specs.Lists.{decide}
+use Rattle.model.specs.Counts.{both}
 
 -- the test holds of each of 1 to n
 unfoldable pub allTo : (ℕ → Bool) → ℕ → Bool

@@ -6,13 +6,13 @@ use mathlib.Core.List.{List}
 use lib.Dec.{leb, eqb}
 use lib.ListN.{length}
 use borrow.Author.Tests.{le-leb, lt-leb, eqb-true}
-use Rattle.rings.specs.Lists.{test, clash}
-use Rattle.counts.specs.Counts.{inLimits, madeOf, both, made-allowed, allowed-limits}
-use Rattle.counts.specs.declared.Counts.{Counts}
-use Rattle.counts.specs.declared.CountsMade.{CountsMade}
-use Rattle.counts.specs.declared.CountsMade.the-variants as made
-use Rattle.counts.specs.declared.Refusal.{Refusal}
-use Rattle.counts.specs.declared.Refusal.the-variants.{Layout}
+use Rattle.ring_laws.specs.Lists.{test, clash}
+use Rattle.model.specs.Counts.{inLimits, madeOf, both, made-allowed, allowed-limits}
+use Rattle.model.specs.declared.Counts.{Counts}
+use Rattle.model.specs.declared.CountsMade.{CountsMade}
+use Rattle.model.specs.declared.CountsMade.the-variants as made
+use Rattle.model.specs.declared.Refusal.{Refusal}
+use Rattle.model.specs.declared.Refusal.the-variants.{Layout}
 use Rattle.sheet.specs.Sheet.{countsOf, recordsOf}
 use Rattle.sheet.specs.Accepted.{headerOf, lengthOf, sizeFine, sized, startsTo, recordsTo, accepted, answer, checked}
 use Rattle.sheet.specs.declared.header.Header.{Header}

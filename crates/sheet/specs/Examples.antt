@@ -5,7 +5,7 @@ use mathlib.Core.Bool.{Bool, true, false}
 use mathlib.Core.List.{List, [], _∷_, _++_}
 use lib.IntN.{pos}
 use lib.ListN.{set, take}
-use Rattle.counts.specs.Counts.{inLimits}
+use Rattle.model.specs.Counts.{inLimits}
 use Rattle.sheet.specs.AllTo.{allTo}
 use Rattle.words.specs.Words.{u32At, u64At, i64At}
 use Rattle.sheet.specs.Sheet.{countsOf, recordsOf, startAt, recordFrom, sheetOf}

@@ -7,9 +7,9 @@ use native.Mathlib.Omega.{arith}
 use lib.Dec.{leb, eqb}
 use lib.IntN.{ℤ, pos, negsuc, natAbs}
 use borrow.Author.Tests.{leb-true, eqb-true, ne-eqb}
-use Rattle.rings.specs.Lists.{test, clash}
-use Rattle.counts.specs.Counts.{Allowed, total, both}
-use Rattle.counts.specs.declared.Counts.{Counts}
+use Rattle.ring_laws.specs.Lists.{test, clash}
+use Rattle.model.specs.Counts.{Allowed, total, both}
+use Rattle.model.specs.declared.Counts.{Counts}
 use Rattle.sheet.specs.AllTo.{allTo, all-at}
 use Rattle.sheet.specs.Operations.{rowOf, under, usesOf}
 use Rattle.sheet.specs.Accepted.{isOperand, mayHold, fieldsFine, recordFine}

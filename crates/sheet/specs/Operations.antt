@@ -7,8 +7,8 @@ use native.Mathlib.Omega.{arith}
 use lib.Dec.{leb}
 use lib.ListN.{getD}
 use borrow.Author.Tests.{le-leb, lt-leb}
-use Rattle.rings.specs.Lists.{if_then_else_}
-use Rattle.rings.specs.Tabulate.{listed, has, listed-at}
+use Rattle.ring_laws.specs.Lists.{if_then_else_}
+use Rattle.ring_laws.specs.Tabulate.{listed, has, listed-at}
 use Rattle.sheet.specs.declared.operations.Holds.{Holds}
 use Rattle.sheet.specs.declared.operations.Holds.the-variants.{Nothing, Operand, RecordNumber, AccumulatorNumber}
 use Rattle.sheet.specs.declared.operations.Uses.{Uses}

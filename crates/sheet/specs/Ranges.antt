@@ -7,11 +7,11 @@ use native.Mathlib.Omega.{arith}
 use lib.Dec.{leb, eqb}
 use lib.ListN.{length, getD}
 use borrow.Author.Tests.{leb-true, eqb-true}
-use Rattle.counts.specs.Counts.{Allowed, inLimits, both, limits-allowed}
-use Rattle.counts.specs.declared.Refusal.{Refusal}
-use Rattle.counts.specs.declared.Refusal.the-variants.{Layout}
-use Rattle.rings.specs.Lists.{if_then_else_, test}
-use Rattle.rings.specs.Tabulate.{listed-at, length-listed}
+use Rattle.model.specs.Counts.{Allowed, inLimits, both, limits-allowed}
+use Rattle.model.specs.declared.Refusal.{Refusal}
+use Rattle.model.specs.declared.Refusal.the-variants.{Layout}
+use Rattle.ring_laws.specs.Lists.{if_then_else_, test}
+use Rattle.ring_laws.specs.Tabulate.{listed-at, length-listed}
 use Rattle.sheet.specs.AllTo.{all-at}
 use Rattle.sheet.specs.Sheet.{countsOf, recordsOf, startOffset, startAt, recordOffset, recordAt, sheetOf}
 use Rattle.sheet.specs.Accepted.{headerOf, lengthOf, sizeFine, sized, recordFine, padFine, startsTo, layoutFine, recordsTo, accepted, checked, checkedCode}

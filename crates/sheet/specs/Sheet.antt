@@ -1,8 +1,8 @@
 -- A model sheet: what its bytes say. Nothing here speaks of a run or of lent tables.
 use Prim.Native.Nat.{ℕ, _+_, _*_, _-_}
 use mathlib.Core.List.{List}
-use Rattle.counts.specs.declared.Counts.{Counts}
-use Rattle.rings.specs.Tabulate.{listed}
+use Rattle.model.specs.declared.Counts.{Counts}
+use Rattle.ring_laws.specs.Tabulate.{listed}
 use Rattle.words.specs.Words.{u8At, u32At, i64At}
 use Rattle.sheet.specs.declared.records.Record.{Record}
 

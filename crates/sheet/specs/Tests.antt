@@ -12,9 +12,9 @@ use mir.Syntax.{w64}
 use mir.Val.{SFits, ofZ, toZ}
 use mir.ValLaws.{toZ-ofZ}
 use borrow.Author.Tests.{le-leb, lt-leb, eq-eqb, ne-eqb, not-true, not-false}
-use Rattle.counts.specs.Counts.{total, isHead, and-off, and-on}
-use Rattle.counts.specs.declared.Counts.{Counts}
-use Rattle.counts.specs.declared.Refusal.the-variants.{Layout}
+use Rattle.model.specs.Counts.{total, isHead, and-off, and-on}
+use Rattle.model.specs.declared.Counts.{Counts}
+use Rattle.model.specs.declared.Refusal.the-variants.{Layout}
 use Rattle.words.specs.Words.{u8At, u32At, i64At}
 use Rattle.sheet.specs.Sheet.{recordOffset, recordFrom}
 use Rattle.sheet.specs.Operations.{usesOf}

@@ -1,6 +1,6 @@
 // A sheet's header, and what a check of a sheet answers.
-use counts::Counts;
-use counts::Refusal;
+use model::Counts;
+use model::Refusal;
 
 // The counts H, P and L, and the number R of records.
 pub struct Header {

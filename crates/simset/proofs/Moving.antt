@@ -5,9 +5,9 @@ use mathlib.Core.Logic.{_≢_}
 use mathlib.Core.List.{List}
 use native.Mathlib.Omega.{arith}
 use lib.ListN.{getD}
-use Rattle.rings.specs.Table.{Sound, Made, unlinked, linkedBehind, linkedBefore}
-use Rattle.sets.specs.Procedures.{followOn, followed, precedeOn, preceded, clearing, cleared}
-use Rattle.sets.specs.Moves.{follow-none, follow-off, follow-on, precede-none, precede-off, precede-on, followed-is, preceded-is, clearing-none, clearing-done, clearing-on, cleared-is}
+use Rattle.ring_laws.specs.Table.{Sound, Made, unlinked, linkedBehind, linkedBefore}
+use Rattle.simset_laws.specs.Procedures.{followOn, followed, precedeOn, preceded, clearing, cleared}
+use Rattle.simset_laws.specs.Moves.{follow-none, follow-off, follow-on, precede-none, precede-off, precede-on, followed-is, preceded-is, clearing-none, clearing-done, clearing-on, cleared-is}
 
 module _ (m x y : ℕ) (t u : List ℕ) (a : ℕ) (ax : a ≡ x) (out : Made m (unlinked m a t) u) where
   u-is : u ≡ unlinked m x t

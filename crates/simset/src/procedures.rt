@@ -5,8 +5,8 @@ use ring::unlink;
 use ring::wide;
 ghost use mathlib.Core.Path.{_≡_};
 ghost use Prim.Native.Nat.{_<_};
-ghost use Rattle.rings.specs.Table.{Sound, Made};
-ghost use Rattle.sets.specs.Procedures.{followed, preceded, cleared, linkOr};
+ghost use Rattle.ring_laws.specs.Table.{Sound, Made};
+ghost use Rattle.simset_laws.specs.Procedures.{followed, preceded, cleared, linkOr};
 
 // Takes x out, then puts it behind y if y is on a ring.
 pub(crate) fn follow(t: &mut [u32], m: usize, x: u32, y: u32)

@@ -1,16 +1,16 @@
 // The set calls on the links of a judged model: refusal 3 by the operands' kinds, or the procedure. Runs use these too.
 use crate::procedures;
-use counts::Counts;
-use counts::Refusal;
+use model::Counts;
+use model::Refusal;
 use model::answer::Answer;
 use ring::unlink;
 use ring::wide;
 ghost use mathlib.Core.Path.{_≡_};
 ghost use Prim.Native.Nat.{_+_};
-ghost use Rattle.rings.specs.Table.{Sound};
-ghost use Rattle.counts.specs.Counts.{total, isHead, isLinkage};
-ghost use Rattle.sets.specs.Calls.{orNone, outStep, followStep, precedeStep, intoStep, clearStep};
-ghost use Rattle.sets.specs.Promise.{Moved};
+ghost use Rattle.ring_laws.specs.Table.{Sound};
+ghost use Rattle.model.specs.Counts.{total, isHead, isLinkage};
+ghost use Rattle.simset_laws.specs.Calls.{orNone, outStep, followStep, precedeStep, intoStep, clearStep};
+ghost use Rattle.simset_laws.specs.Promise.{Moved};
 
 // A linkage, or none.
 fn linkage_or_none(c: Counts, y: u32) -> bool

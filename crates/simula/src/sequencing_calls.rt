@@ -1,13 +1,13 @@
 // The public sequencing calls of SIMULATION: lent the whole model, refusing in the order 1, 2, 3, then the rest. A refused call changes no word.
-use counts::Counts;
+use model::Counts;
 use model::answer::Answer;
 use model::verdict::Verdict;
 use simulation::steps;
-use tables::judge::judge_tables;
+use model_judge::judge_tables;
 ghost use mathlib.Core.Path.{_≡_};
 ghost use mathlib.Core.Bool.{true, false};
-ghost use Rattle.model.specs.Answers.{called};
-ghost use Rattle.sequencing.specs.Calls.{onSqs, onMarks, onSets, holdStep, passivateStep, cancelStep, timedStep, finishStep, waitStep};
+ghost use Rattle.model_laws.specs.Called.{called};
+ghost use Rattle.simulation_laws.specs.Calls.{onSqs, onMarks, onSets, holdStep, passivateStep, cancelStep, timedStep, finishStep, waitStep};
 
 // Current waits T ticks: its notice moves behind all of equal or smaller time.
 pub fn hold(

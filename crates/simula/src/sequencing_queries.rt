@@ -1,12 +1,12 @@
 // The public queries of SIMULATION: lent the whole model, refusing in the order 1, 2, 3, then the rest.
-use counts::Counts;
+use model::Counts;
 use model::answer::Answer;
 use model::verdict::Verdict;
-use queries::on_axis;
-use tables::judge::judge_tables;
+use simula_queries::on_axis;
+use model_judge::judge_tables;
 ghost use mathlib.Core.Path.{_≡_};
-ghost use Rattle.model.specs.Answers.{asked};
-ghost use Rattle.sequencing.specs.Calls.{sqsOf, currentTold, timeTold, idleTold, terminatedTold, evtimeTold, nextevTold};
+ghost use Rattle.model_laws.specs.Called.{asked};
+ghost use Rattle.simulation_laws.specs.Calls.{sqsOf, currentTold, timeTold, idleTold, terminatedTold, evtimeTold, nextevTold};
 
 // The process of the first notice.
 pub fn current(c: Counts, links: &[u32], axis: &[u32], times: &[u64], marks: &[u8]) -> Answer

@@ -1,12 +1,12 @@
 // The public set calls of SIMSET: lent the whole model, refusing in the order 1, 2, 3. A refused call changes no word.
-use counts::Counts;
+use model::Counts;
 use model::answer::Answer;
 use model::verdict::Verdict;
 use simset::steps;
-use tables::judge::judge_tables;
+use model_judge::judge_tables;
 ghost use mathlib.Core.Path.{_≡_};
-ghost use Rattle.model.specs.Answers.{called};
-ghost use Rattle.sets.specs.Calls.{onLinks, outStep, followStep, precedeStep, intoStep, clearStep};
+ghost use Rattle.model_laws.specs.Called.{called};
+ghost use Rattle.simset_laws.specs.Calls.{onLinks, outStep, followStep, precedeStep, intoStep, clearStep};
 
 // Takes the link x out of its set, if it is in one.
 pub fn out(

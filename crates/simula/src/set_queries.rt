@@ -1,12 +1,12 @@
 // The public queries of SIMSET: lent the whole model, refusing in the order 1, 2, 3.
-use counts::Counts;
+use model::Counts;
 use model::answer::Answer;
 use model::verdict::Verdict;
-use queries::on_links;
-use tables::judge::judge_tables;
+use simula_queries::on_links;
+use model_judge::judge_tables;
 ghost use mathlib.Core.Path.{_≡_};
-ghost use Rattle.model.specs.Answers.{asked};
-ghost use Rattle.sets.specs.Calls.{ofLinks, firstTold, lastTold, sucTold, predTold, emptyTold, cardinalTold};
+ghost use Rattle.model_laws.specs.Called.{asked};
+ghost use Rattle.simset_laws.specs.Calls.{ofLinks, firstTold, lastTold, sucTold, predTold, emptyTold, cardinalTold};
 
 // The first member of the head x, or none.
 pub fn first(c: Counts, links: &[u32], axis: &[u32], times: &[u64], marks: &[u8], x: u32) -> Answer

@@ -6,19 +6,19 @@ use mathlib.Core.List.{List}
 use native.Mathlib.Omega.{arith}
 use lib.IntN.{ℤ}
 use borrow.Author.Tests.{lt-leb}
-use Rattle.counts.specs.declared.Counts.{Counts}
-use Rattle.counts.specs.declared.Refusal.the-variants.{Operand, TimeLimit}
-use Rattle.counts.specs.Counts.{limit, isProcess, placeOf}
-use Rattle.rings.specs.Table.{Sound}
+use Rattle.model.specs.declared.Counts.{Counts}
+use Rattle.model.specs.declared.Refusal.the-variants.{Operand, TimeLimit}
+use Rattle.model.specs.Counts.{limit, isProcess, placeOf}
+use Rattle.ring_laws.specs.Table.{Sound}
 use Rattle.model.specs.declared.answer.Answer.{Answer}
 use Rattle.model.specs.declared.answer.Answer.the-variants.{Done, Refused}
-use Rattle.model.specs.Now.{half}
-use Rattle.sets.specs.Calls.{orNone}
-use Rattle.sequencing.specs.Plain.{above}
-use Rattle.sequencing.specs.Procedures.{putByClause, activated}
-use Rattle.sequencing.specs.Calls.{timedStep}
-use Rattle.sequencing.specs.Promise.{sqs, Left, Answers, Noticed, Vain, capped-fine, capped-over}
-use Rattle.sequencing.specs.StepPromise.{need-x, need-plain, refused-3, passed-3}
+use Rattle.model_laws.specs.Now.{half}
+use Rattle.simset_laws.specs.Calls.{orNone}
+use Rattle.simulation_laws.specs.Plain.{above}
+use Rattle.simulation_laws.specs.Procedures.{putByClause, activated}
+use Rattle.simulation_laws.specs.Calls.{timedStep}
+use Rattle.simulation_laws.specs.Promise.{sqs, Left, Answers, Noticed, Vain, capped-fine, capped-over}
+use Rattle.simulation_laws.specs.StepPromise.{need-x, need-plain, refused-3, passed-3}
 use Rattle.simulation.proofs.Arms.{beside-not, due-direct, due-two}
 use Rattle.simulation.proofs.Chained.{active-5, active-0}
 

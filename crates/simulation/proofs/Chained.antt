@@ -8,13 +8,13 @@ use native.Mathlib.Numerals.{add-one}
 use lib.Dec.{eqb}
 use lib.ListN.{getD, set}
 use borrow.Author.Tests.{eq-eqb, ne-eqb, le-leb, lt-leb, lt-ltb, le-ltb}
-use Rattle.rings.specs.Table.{Sound, Made, unlinked, linkedBehind}
-use Rattle.counts.specs.Counts.{limit}
-use Rattle.counts.specs.declared.Refusal.the-variants.{NoNotice, TimeLimit}
+use Rattle.ring_laws.specs.Table.{Sound, Made, unlinked, linkedBehind}
+use Rattle.model.specs.Counts.{limit}
+use Rattle.model.specs.declared.Refusal.the-variants.{NoNotice, TimeLimit}
 use Rattle.model.specs.declared.answer.Answer.{Answer}
 use Rattle.model.specs.declared.answer.Answer.the-variants.{Done, Refused}
-use Rattle.sequencing.specs.Procedures.{Sqs, made, found, dropOn, putOn, heldAt, held, passivated, cancelled, finishedMarks, dueAt, placeFor, putByClause, activated}
-use Rattle.sequencing.specs.Promise.{sqs, Left, Answers, AnswersMarked, Place, Stored, Read, Lone, Vain, Beside, Due, capped-in, capped-out}
+use Rattle.simulation_laws.specs.Procedures.{Sqs, made, found, dropOn, putOn, heldAt, held, passivated, cancelled, finishedMarks, dueAt, placeFor, putByClause, activated}
+use Rattle.simulation_laws.specs.Promise.{sqs, Left, Answers, AnswersMarked, Place, Stored, Read, Lone, Vain, Beside, Due, capped-in, capped-out}
 
 pub dropped-by : (m x y z : ℕ) (a a′ t t′ : List ℕ) → y ≡ x → Made m (unlinked m y a) a′ → z ≡ x → Stored z 0 t t′ → Left m (dropOn m x (sqs a t)) a′ t′
 unfolding dropOn

@@ -7,17 +7,17 @@ use crate::axis::plus;
 use crate::axis::put;
 use crate::axis::seek;
 use crate::procedures::cancel;
-use counts::Refusal;
-use counts::TIME_LIMIT;
+use model::Refusal;
+use model::TIME_LIMIT;
 use model::answer::Answer;
 use ring::wide;
 ghost use mathlib.Core.Path.{_≡_};
 ghost use Prim.Native.Nat.{_+_, _<_, _≤_};
-ghost use Rattle.rings.specs.Table.{Sound};
-ghost use Rattle.counts.specs.Counts.{limit};
-ghost use Rattle.sequencing.specs.Procedures.{placeFor, putByClause, activated};
-ghost use Rattle.sequencing.specs.Plain.{above};
-ghost use Rattle.sequencing.specs.Promise.{sqs, Left, Answers, Place, Vain, Beside, Due};
+ghost use Rattle.ring_laws.specs.Table.{Sound};
+ghost use Rattle.model.specs.Counts.{limit};
+ghost use Rattle.simulation_laws.specs.Procedures.{placeFor, putByClause, activated};
+ghost use Rattle.simulation_laws.specs.Plain.{above};
+ghost use Rattle.simulation_laws.specs.Promise.{sqs, Left, Answers, Place, Vain, Beside, Due};
 
 // Whether ACTIVATE has no effect.
 pub(crate) fn is_vain(

@@ -1,5 +1,5 @@
 // Reading and changing the sequencing set on lent tables: m is P + 2, the axis's own head stands at m - 1.
-use counts::TIME_LIMIT;
+use model::TIME_LIMIT;
 use ring::link_behind;
 use ring::unlink;
 use ring::unlink_behind;
@@ -7,9 +7,9 @@ use ring::wide;
 ghost use mathlib.Core.Path.{_≡_};
 ghost use Prim.Native.Nat.{_+_, _-_, _<_, _≤_};
 ghost use lib.ListN.{length, getD};
-ghost use Rattle.rings.specs.Table.{Sound};
-ghost use Rattle.sequencing.specs.Procedures.{found, dropOn, putOn};
-ghost use Rattle.sequencing.specs.Promise.{sqs, Left, Place, Read, Stored, Lone, First, capped};
+ghost use Rattle.ring_laws.specs.Table.{Sound};
+ghost use Rattle.simulation_laws.specs.Procedures.{found, dropOn, putOn};
+ghost use Rattle.simulation_laws.specs.Promise.{sqs, Left, Place, Read, Stored, Lone, First, capped};
 
 // The time at a place, 0 past the table's end.
 pub fn due(times: &[u64], i: usize) -> u64

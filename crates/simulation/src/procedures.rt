@@ -8,15 +8,15 @@ use crate::axis::mark;
 use crate::axis::move_to;
 use crate::axis::set_time;
 use crate::axis::time_at;
-use counts::Refusal;
-use counts::TIME_LIMIT;
+use model::Refusal;
+use model::TIME_LIMIT;
 use model::answer::Answer;
 use ring::wide;
 ghost use Prim.Native.Nat.{_<_, _≤_};
-ghost use Rattle.rings.specs.Table.{Sound};
-ghost use Rattle.counts.specs.Counts.{limit};
-ghost use Rattle.sequencing.specs.Procedures.{heldAt, held, passivated, cancelled, finishedMarks};
-ghost use Rattle.sequencing.specs.Promise.{sqs, Left, Answers, AnswersMarked, First, Led, Noticed};
+ghost use Rattle.ring_laws.specs.Table.{Sound};
+ghost use Rattle.model.specs.Counts.{limit};
+ghost use Rattle.simulation_laws.specs.Procedures.{heldAt, held, passivated, cancelled, finishedMarks};
+ghost use Rattle.simulation_laws.specs.Promise.{sqs, Left, Answers, AnswersMarked, First, Led, Noticed};
 
 // x's notice gets the time u; where the next is due by then, it goes behind all due by then.
 pub(crate) fn hold_at(axis: &mut [u32], m: usize, times: &mut [u64], x: u32, u: u64)

@@ -3,19 +3,19 @@ use crate::activation::above_zero;
 use crate::activation::is_vain;
 use crate::activation::schedule;
 use crate::steps::process_or_none;
-use counts::Counts;
-use counts::Refusal;
-use counts::TIME_LIMIT;
+use model::Counts;
+use model::Refusal;
+use model::TIME_LIMIT;
 use model::answer::Answer;
 use ring::wide;
 ghost use mathlib.Core.Bool.{false};
 ghost use Prim.Native.Nat.{_<_, _≤_};
 ghost use lib.IntN.{pos};
-ghost use Rattle.rings.specs.Table.{Sound};
-ghost use Rattle.model.specs.Now.{half};
-ghost use Rattle.sequencing.specs.Procedures.{activated};
-ghost use Rattle.sequencing.specs.Calls.{timedStep};
-ghost use Rattle.sequencing.specs.Promise.{sqs, Answers, Judged, Noticed};
+ghost use Rattle.ring_laws.specs.Table.{Sound};
+ghost use Rattle.model_laws.specs.Now.{half};
+ghost use Rattle.simulation_laws.specs.Procedures.{activated};
+ghost use Rattle.simulation_laws.specs.Calls.{timedStep};
+ghost use Rattle.simulation_laws.specs.Promise.{sqs, Answers, Judged, Noticed};
 
 // Activate with no clause, where the first notice's place and time are known: where it has an effect, X's notice is the first now.
 fn direct(

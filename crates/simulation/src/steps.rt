@@ -5,22 +5,22 @@ use crate::axis::drop_first;
 use crate::axis::first;
 use crate::axis::lone;
 use crate::procedures;
-use counts::Counts;
-use counts::Refusal;
+use model::Counts;
+use model::Refusal;
 use model::answer::Answer;
 use ring::wide;
 use simset::procedures::precede;
 use simset::steps::head_or_none;
 ghost use mathlib.Core.Path.{_≡_};
 ghost use Prim.Native.Nat.{_+_, _-_, _<_, _≤_};
-ghost use Rattle.rings.specs.Table.{Sound};
-ghost use Rattle.counts.specs.Counts.{isProcess, total};
-ghost use Rattle.model.specs.Now.{half};
-ghost use Rattle.sets.specs.Calls.{orNone};
-ghost use Rattle.sequencing.specs.Plain.{timedNeed};
-ghost use Rattle.sequencing.specs.Calls.{yPlace, holdStep, passivateStep, cancelStep, timedStep, finishStep, waitStep};
-ghost use Rattle.sequencing.specs.Promise.{sqs, Answers, Judged, Takeable, Noticed};
-ghost use Rattle.sequencing.specs.StepPromise.{FinishMade, WaitMade};
+ghost use Rattle.ring_laws.specs.Table.{Sound};
+ghost use Rattle.model.specs.Counts.{isProcess, total};
+ghost use Rattle.model_laws.specs.Now.{half};
+ghost use Rattle.simset_laws.specs.Calls.{orNone};
+ghost use Rattle.simulation_laws.specs.Plain.{timedNeed};
+ghost use Rattle.simulation_laws.specs.Calls.{yPlace, holdStep, passivateStep, cancelStep, timedStep, finishStep, waitStep};
+ghost use Rattle.simulation_laws.specs.Promise.{sqs, Answers, Judged, Takeable, Noticed};
+ghost use Rattle.simulation_laws.specs.StepPromise.{FinishMade, WaitMade};
 
 // A process, or none.
 pub(crate) fn process_or_none(c: Counts, x: u32) -> bool

@@ -1,6 +1,6 @@
 use Rattle.host.specs.Arrays.{links-in, axis-in, one-in, links-part, axis-part, one-part, lent-startable}
 use Rattle.host.specs.Host.{host-8, host-long, host-run}
-use Rattle.runs.specs.Run.{RanOn}
+use Rattle.run_laws.specs.Run.{RanOn}
 use mathlib.Core.Path.{sym, ap, _∙_}
 use borrow.Author.Needs.{needs}
 use Rattle.host.proofs.nodbrize_run.Statement.{statement}

@@ -1,8 +1,8 @@
-use Rattle.rings.specs.Sound.{made, sound-before}
+use Rattle.ring_laws.specs.Sound.{made, sound-before}
 use mathlib.Core.Path.{refl}
 use Prim.Native.Nat.{_+_, _<_}
 use lib.ListN.{getD, length-set}
-use Rattle.rings.specs.Table.{linkedBefore}
+use Rattle.ring_laws.specs.Table.{linkedBefore}
 use borrow.Author.Needs.{needs}
 use native.Mathlib.Omega.{arith}
 use Rattle.ring.proofs.link_before.Statement.{statement}

@@ -1,12 +1,12 @@
 use borrow.Author.Needs.{needs}
-use Rattle.rings.specs.Sound.{made, sound-behind}
+use Rattle.ring_laws.specs.Sound.{made, sound-behind}
 use Rattle.ring.proofs.link_behind.Statement.{statement}
 use Rattle.ring.proofs.link_behind.Tie as tie
 use native.Mathlib.Omega.{arith}
 use mathlib.Core.Path.{refl}
 use Prim.Native.Nat.{_<_}
 use lib.ListN.{getD, length-set}
-use Rattle.rings.specs.Table.{linkedBehind}
+use Rattle.ring_laws.specs.Table.{linkedBehind}
 
 s-in : (c : tie.After-slice-known) → getD (c .before .args .t .now) (c .before .args .yw) 0 < c .before .args .m
 s-in c = c .before .pre .0 .inside (c .before .args .yw)

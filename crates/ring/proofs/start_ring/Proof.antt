@@ -1,6 +1,6 @@
 use lib.ListN.{length-set}
 use mathlib.Core.Path.{refl}
-use Rattle.rings.specs.Table.{selfLinked}
+use Rattle.ring_laws.specs.Table.{selfLinked}
 use borrow.Author.Needs.{needs}
 use native.Mathlib.Omega.{arith}
 use Rattle.ring.proofs.start_ring.Statement.{statement}

@@ -1,9 +1,9 @@
 use lib.IntN.{ℤ}
 use mathlib.Core.Path.{sym, _∙_, ap}
-use Rattle.model.specs.Ready.{judged-ready}
-use Rattle.accumulator.specs.Signed.{kept}
-use Rattle.accumulator.specs.Calls.{accumOne}
-use Rattle.accumulator.specs.Promise.{alone-turned, alone-fine, time-in}
+use Rattle.model_laws.specs.Ready.{judged-ready}
+use Rattle.accum_laws.specs.Signed.{kept}
+use Rattle.accum_laws.specs.Calls.{accumOne}
+use Rattle.accum_laws.specs.Promise.{alone-turned, alone-fine, time-in}
 use borrow.Author.Needs.{needs}
 use Rattle.accum.proofs.calls.accum_alone.Statement.{statement}
 use Rattle.accum.proofs.calls.accum_alone.Tie as tie

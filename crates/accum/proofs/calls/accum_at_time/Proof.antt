@@ -1,8 +1,8 @@
 use lib.IntN.{ℤ}
 use mathlib.Core.Path.{_∙_, ap}
-use Rattle.accumulator.specs.Signed.{kept}
-use Rattle.accumulator.specs.Update.{updatedOf}
-use Rattle.accumulator.specs.Promise.{one-to, one-not}
+use Rattle.accum_laws.specs.Signed.{kept}
+use Rattle.accum_laws.specs.Update.{updatedOf}
+use Rattle.accum_laws.specs.Promise.{one-to, one-not}
 use borrow.Author.Needs.{needs}
 use Rattle.accum.proofs.calls.accum_at_time.Statement.{statement}
 use Rattle.accum.proofs.calls.accum_at_time.Tie as tie

@@ -1,9 +1,9 @@
 use lib.IntN.{ℤ}
 use mathlib.Core.Path.{_∙_, ap}
-use Rattle.model.specs.Ready.{judged-ready}
-use Rattle.accumulator.specs.Signed.{kept}
-use Rattle.accumulator.specs.Flat.{updatedIn}
-use Rattle.accumulator.specs.Promise.{listed-passed, listed-in, listed-turned, listed-fine}
+use Rattle.model_laws.specs.Ready.{judged-ready}
+use Rattle.accum_laws.specs.Signed.{kept}
+use Rattle.accum_laws.specs.Flat.{updatedIn}
+use Rattle.accum_laws.specs.Promise.{listed-passed, listed-in, listed-turned, listed-fine}
 use borrow.Author.Needs.{needs}
 use Rattle.accum.proofs.calls.accum_listed.Statement.{statement}
 use Rattle.accum.proofs.calls.accum_listed.Tie as tie

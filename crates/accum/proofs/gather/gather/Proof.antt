@@ -1,5 +1,5 @@
 use Prim.Native.Nat.{_-_}
-use Rattle.accumulator.specs.Gather.{Copied, copied-start, copied-taken, copied-out}
+use Rattle.accum_laws.specs.Gather.{Copied, copied-start, copied-taken, copied-out}
 use borrow.Author.Needs.{needs}
 use native.Mathlib.Omega.{arith}
 use Rattle.accum.proofs.gather.gather.Statement.{statement}

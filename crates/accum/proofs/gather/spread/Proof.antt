@@ -1,6 +1,6 @@
 use mathlib.Core.Path.{sym}
 use Prim.Native.Nat.{_-_}
-use Rattle.accumulator.specs.Gather.{Copied, copied-start, copied-put, copied-out}
+use Rattle.accum_laws.specs.Gather.{Copied, copied-start, copied-put, copied-out}
 use borrow.Author.Needs.{needs}
 use native.Mathlib.Omega.{arith}
 use Rattle.accum.proofs.gather.spread.Statement.{statement}

@@ -1,6 +1,6 @@
 use borrow.Author.Tests.{lt-leb, le-leb}
-use Rattle.counts.specs.Counts.{and-off, and-on}
-use Rattle.accumulator.specs.Calls.{countFine}
+use Rattle.model.specs.Counts.{and-off, and-on}
+use Rattle.accum_laws.specs.Calls.{countFine}
 use mathlib.Core.Path.{refl}
 use Rattle.accum.proofs.judge.count_fine.Statement.{statement}
 use Rattle.accum.proofs.judge.count_fine.Tie as tie

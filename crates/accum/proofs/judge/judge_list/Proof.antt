@@ -1,4 +1,4 @@
-use Rattle.accumulator.specs.Promise.{list-size, list-turned, list-number, list-fine}
+use Rattle.accum_laws.specs.Promise.{list-size, list-turned, list-number, list-fine}
 use borrow.Author.Needs.{needs}
 use Rattle.accum.proofs.judge.judge_list.Statement.{statement}
 use Rattle.accum.proofs.judge.judge_list.Tie as tie

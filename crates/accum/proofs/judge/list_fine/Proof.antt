@@ -1,8 +1,8 @@
 use mathlib.Core.Path.{ap}
 use borrow.Author.Tests.{not-true, not-false}
 use mathlib.Core.Path.{sym, refl, _∙_}
-use Rattle.counts.specs.Counts.{and-off, and-on}
-use Rattle.accumulator.specs.Calls.{listFine, countFine}
+use Rattle.model.specs.Counts.{and-off, and-on}
+use Rattle.accum_laws.specs.Calls.{listFine, countFine}
 use borrow.Author.Needs.{needs}
 use Rattle.accum.proofs.judge.list_fine.Statement.{statement}
 use Rattle.accum.proofs.judge.list_fine.Tie as tie

@@ -1,6 +1,6 @@
 use borrow.Author.Tests.{lt-leb, le-leb}
-use Rattle.counts.specs.Counts.{and-off, and-on}
-use Rattle.accumulator.specs.Calls.{numberFine}
+use Rattle.model.specs.Counts.{and-off, and-on}
+use Rattle.accum_laws.specs.Calls.{numberFine}
 use mathlib.Core.Path.{refl}
 use borrow.Author.Needs.{needs}
 use Rattle.accum.proofs.judge.number_fine.Statement.{statement}

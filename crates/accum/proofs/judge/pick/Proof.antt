@@ -1,6 +1,6 @@
-use Rattle.model.specs.Ready.{judged-ready}
-use Rattle.accumulator.specs.Promise.{number-in}
-use Rattle.accumulator.specs.Picks.{picked-passed, pick-turned, pick-fine}
+use Rattle.model_laws.specs.Ready.{judged-ready}
+use Rattle.accum_laws.specs.Promise.{number-in}
+use Rattle.accum_laws.specs.Picks.{picked-passed, pick-turned, pick-fine}
 use borrow.Author.Needs.{needs}
 use native.Mathlib.Omega.{arith}
 use Rattle.accum.proofs.judge.pick.Statement.{statement}

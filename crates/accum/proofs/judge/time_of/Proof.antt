@@ -1,4 +1,4 @@
-use Rattle.accumulator.specs.Promise.{first-at, first-fits, time-is}
+use Rattle.accum_laws.specs.Promise.{first-at, first-fits, time-is}
 use borrow.Author.Needs.{needs}
 use Rattle.accum.proofs.judge.time_of.Statement.{statement}
 use Rattle.accum.proofs.judge.time_of.Tie as tie

@@ -44,21 +44,21 @@ use denote.Triple.Table.{entered, cited}
 use denote.Triple.Clauses.{ensured, Lasts, lasts}
 use denote.Triple.Walked.{says, Stays, stay-dropped, walkOf, AllGo, Walks, ends-at, walked, walk-meets}
 use denote.Exit.{yes}
-use Rattle.counts.specs.declared.Counts.{Counts}
-use Rattle.counts.proofs.Counts as Co
-use Rattle.counts.proofs.Counts.Laws as Co′
+use Rattle.model.specs.declared.Counts.{Counts}
+use Rattle.model.proofs.Counts as Co
+use Rattle.model.proofs.Counts.Laws as Co′
 use Rattle.model.specs.declared.answer.Answer.{Answer}
 use Rattle.model.proofs.answer.Answer as An
 use Rattle.model.proofs.answer.Answer.Laws as An′
-use Rattle.accumulator.specs.Calls.{accumAlone}
-use Rattle.accumulator.specs.declared.Accumulator.{Accumulator}
-use Rattle.accumulator.specs.declared.Kept as declared
-use Rattle.accumulator.proofs.Accumulator as T
-use Rattle.accumulator.proofs.Accumulator.Laws as T′
+use Rattle.accum_laws.specs.Calls.{accumAlone}
+use Rattle.accum_laws.specs.declared.Accumulator.{Accumulator}
+use Rattle.accum_laws.specs.declared.Kept as declared
+use Rattle.accum_laws.proofs.Accumulator as T
+use Rattle.accum_laws.proofs.Accumulator.Laws as T′
 use Rattle.accum.proofs.Walking.{mach, mach-counts, mach-answer, mach-slice, answer-spelt, four, five, tokens-out, tokens-in, gone, tables-gone}
 use Rattle.accum.proofs.Locals.{lies-in, lies-out}
-use Rattle.accumulator.proofs.Kept as U
-use Rattle.accumulator.proofs.Kept.Laws as U′
+use Rattle.accum_laws.proofs.Kept as U
+use Rattle.accum_laws.proofs.Kept.Laws as U′
 use Rattle.accum.proofs.lent.accum_one as one
 use Rattle.accum.proofs.lent.accum_one.Symbol as one-def
 use Rattle.accum.proofs.lent.accum_one.Symbol.{name as #one}

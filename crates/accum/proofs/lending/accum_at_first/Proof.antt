@@ -51,17 +51,17 @@ use denote.Triple.Table.{entered, cited}
 use denote.Triple.Clauses.{ensured, Lasts, lasts}
 use denote.Triple.Walked.{says, needs, Stays, stay-dropped, walkOf, AllGo, Walks, ends-at, walked, walk-meets}
 use denote.Exit.{yes}
-use Rattle.counts.specs.declared.Counts.{Counts}
-use Rattle.counts.proofs.Counts as Co
-use Rattle.counts.proofs.Counts.Laws as Co′
+use Rattle.model.specs.declared.Counts.{Counts}
+use Rattle.model.proofs.Counts as Co
+use Rattle.model.proofs.Counts.Laws as Co′
 use Rattle.model.specs.declared.answer.Answer.{Answer}
 use Rattle.model.proofs.answer.Answer as An
 use Rattle.model.proofs.answer.Answer.Laws as An′
-use Rattle.accumulator.specs.Triples.{Listed}
-use Rattle.accumulator.specs.Calls.{accumAt}
-use Rattle.accumulator.specs.declared.Accumulator.{Accumulator}
-use Rattle.accumulator.proofs.Accumulator as T
-use Rattle.accumulator.proofs.Accumulator.Laws as T′
+use Rattle.accum_laws.specs.Triples.{Listed}
+use Rattle.accum_laws.specs.Calls.{accumAt}
+use Rattle.accum_laws.specs.declared.Accumulator.{Accumulator}
+use Rattle.accum_laws.proofs.Accumulator as T
+use Rattle.accum_laws.proofs.Accumulator.Laws as T′
 use Rattle.accum.specs.declared.lending.Relisted as declared
 use Rattle.accum.proofs.Walking.{mach-counts, mach-answer, mach-slice, answer-spelt, four, five, tokens-out, tokens-in, gone, tables-gone}
 use Rattle.accum.proofs.Locals.{lies-in, lies-out}

@@ -1,5 +1,5 @@
-use Rattle.accumulator.specs.Signed.{kept}
-use Rattle.accumulator.specs.Gather.{listed-size, listed-in, listed-within, listed-lent}
+use Rattle.accum_laws.specs.Signed.{kept}
+use Rattle.accum_laws.specs.Gather.{listed-size, listed-in, listed-within, listed-lent}
 use borrow.Author.Needs.{needs}
 use native.Mathlib.Omega.{arith}
 use Rattle.accum.proofs.lending.accum_listed_lent.Statement.{statement}

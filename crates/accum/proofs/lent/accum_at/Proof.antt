@@ -46,27 +46,27 @@ use denote.Triple.Clauses.{ensured, lasts}
 use denote.Triple.Walked.{says, Stays, stay-slice, stay-dropped, walkOf, AllGo, goes-slice, Walks, ends-at, walked, walk-meets}
 use denote.Exit.{yes}
 use borrow.Author.Needs.{scaled-fits}
-use Rattle.counts.specs.Counts.{limit}
-use Rattle.counts.specs.declared.Counts.{Counts}
-use Rattle.counts.proofs.Counts as Co
-use Rattle.counts.proofs.Counts.Laws as Co′
-use Rattle.model.specs.Tables.{Tables as Model}
+use Rattle.model.specs.Counts.{limit}
+use Rattle.model.specs.declared.Counts.{Counts}
+use Rattle.model.proofs.Counts as Co
+use Rattle.model.proofs.Counts.Laws as Co′
+use Rattle.model_laws.specs.Tables.{Tables as Model}
 use Rattle.model.specs.declared.answer.Answer.{Answer}
 use Rattle.model.proofs.answer.Answer as An
 use Rattle.model.proofs.answer.Answer.Laws as An′
-use Rattle.accumulator.specs.Keeps.{zero-accumulator}
-use Rattle.accumulator.specs.Calls.{accumOne, accumAt, pickOf}
-use Rattle.accumulator.specs.Picks.{Found, pick-found, pick-not}
-use Rattle.accumulator.specs.declared.Accumulator.{Accumulator}
-use Rattle.accumulator.specs.declared.Kept as kept-declared
-use Rattle.accumulator.specs.declared.Picked as picked-declared
-use Rattle.accumulator.proofs.Accumulator as T
-use Rattle.accumulator.proofs.Accumulator.Laws as T′
+use Rattle.accum_laws.specs.Keeps.{zero-accumulator}
+use Rattle.accum_laws.specs.Calls.{accumOne, accumAt, pickOf}
+use Rattle.accum_laws.specs.Picks.{Found, pick-found, pick-not}
+use Rattle.accum_laws.specs.declared.Accumulator.{Accumulator}
+use Rattle.accum_laws.specs.declared.Kept as kept-declared
+use Rattle.accum_laws.specs.declared.Picked as picked-declared
+use Rattle.accum_laws.proofs.Accumulator as T
+use Rattle.accum_laws.proofs.Accumulator.Laws as T′
 use Rattle.accum.proofs.Walking.{mach, mach-counts, mach-answer, mach-slice, value-is, answer-is, four, five, tokens-out, tokens-in, gone, tables-gone, early, held, failed}
-use Rattle.accumulator.proofs.Kept as U
-use Rattle.accumulator.proofs.Kept.Laws as U′
-use Rattle.accumulator.proofs.Picked as P
-use Rattle.accumulator.proofs.Picked.Laws as P′
+use Rattle.accum_laws.proofs.Kept as U
+use Rattle.accum_laws.proofs.Kept.Laws as U′
+use Rattle.accum_laws.proofs.Picked as P
+use Rattle.accum_laws.proofs.Picked.Laws as P′
 use Rattle.accum.proofs.judge.pick as picks
 use Rattle.accum.proofs.judge.pick.Symbol as picks-def
 use Rattle.accum.proofs.judge.pick.Symbol.{name as #pick}

@@ -1,7 +1,7 @@
 use Prim.Native.Nat.{_*_}
 use mathlib.Core.Path.{sym}
 use lib.IntN.{pos}
-use Rattle.runs.specs.Parts.{part-length}
+use Rattle.run_laws.specs.Parts.{part-length}
 use Rattle.calls.proofs.Parts.{model-parts, run-parts}
 use borrow.Author.Needs.{needs}
 use native.Mathlib.Omega.{arith}

@@ -1,4 +1,4 @@
-use Rattle.runs.specs.Starting.{filled-standing, started-is}
+use Rattle.run_laws.specs.Starting.{filled-standing, started-is}
 use borrow.Author.Needs.{needs}
 use Rattle.host.proofs.start.start.Statement.{statement}
 use Rattle.host.proofs.start.start.Tie as tie

@@ -1,5 +1,5 @@
 use borrow.Author.Tests.{le-leb, lt-leb}
-use Rattle.sets.specs.Procedures.{linkOr}
+use Rattle.simset_laws.specs.Procedures.{linkOr}
 use Rattle.simset.proofs.procedures.link_or.Statement.{statement}
 use Rattle.simset.proofs.procedures.link_or.Tie as tie
 

@@ -1,5 +1,5 @@
-use Rattle.sets.specs.Promise.{head-in, moved-not, moved, failed, passed}
-use Rattle.sets.specs.Calls.{clearStep}
+use Rattle.simset_laws.specs.Promise.{head-in, moved-not, moved, failed, passed}
+use Rattle.simset_laws.specs.Calls.{clearStep}
 use borrow.Author.Needs.{needs}
 use native.Mathlib.Omega.{arith}
 use Rattle.simset.proofs.steps.clear.Statement.{statement}

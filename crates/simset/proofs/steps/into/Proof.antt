@@ -1,5 +1,5 @@
-use Rattle.sets.specs.Promise.{link-in, head-in, none-or, moved-not, moved, passed, first-failed, second-failed, both-passed}
-use Rattle.sets.specs.Calls.{intoStep}
+use Rattle.simset_laws.specs.Promise.{link-in, head-in, none-or, moved-not, moved, passed, first-failed, second-failed, both-passed}
+use Rattle.simset_laws.specs.Calls.{intoStep}
 use borrow.Author.Needs.{needs}
 use native.Mathlib.Omega.{arith}
 use Rattle.simset.proofs.steps.into.Statement.{statement}

@@ -1,5 +1,5 @@
-use Rattle.sets.specs.Promise.{link-in, moved-not, moved, failed, passed}
-use Rattle.sets.specs.Calls.{outStep}
+use Rattle.simset_laws.specs.Promise.{link-in, moved-not, moved, failed, passed}
+use Rattle.simset_laws.specs.Calls.{outStep}
 use borrow.Author.Needs.{needs}
 use native.Mathlib.Omega.{arith}
 use Rattle.simset.proofs.steps.out.Statement.{statement}

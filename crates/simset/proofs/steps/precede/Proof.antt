@@ -1,5 +1,5 @@
-use Rattle.sets.specs.Promise.{link-in, linkage-in, none-or, moved-not, moved, passed, first-failed, second-failed, both-passed}
-use Rattle.sets.specs.Calls.{precedeStep}
+use Rattle.simset_laws.specs.Promise.{link-in, linkage-in, none-or, moved-not, moved, passed, first-failed, second-failed, both-passed}
+use Rattle.simset_laws.specs.Calls.{precedeStep}
 use borrow.Author.Needs.{needs}
 use native.Mathlib.Omega.{arith}
 use Rattle.simset.proofs.steps.precede.Statement.{statement}

@@ -1,12 +1,12 @@
 use mathlib.Core.Path.{sym, _∙_}
-use Rattle.model.specs.Ready.{judged-ready}
-use Rattle.sequencing.specs.Promise.{ready-judged}
+use Rattle.model_laws.specs.Ready.{judged-ready}
+use Rattle.simulation_laws.specs.Promise.{ready-judged}
 use mathlib.Core.List.{List}
 use Prim.Native.Nat.{ℕ}
-use Rattle.model.specs.Answers.{called-turned, called-fine}
-use Rattle.sequencing.specs.Procedures.{Sqs}
-use Rattle.sequencing.specs.Calls.{cancelStep}
-use Rattle.sequencing.specs.ReadPromise.{on-sqs}
+use Rattle.model_laws.specs.Called.{called-turned, called-fine}
+use Rattle.simulation_laws.specs.Procedures.{Sqs}
+use Rattle.simulation_laws.specs.Calls.{cancelStep}
+use Rattle.simulation_laws.specs.ReadPromise.{on-sqs}
 use borrow.Author.Needs.{needs}
 use Rattle.simula.proofs.sequencing_calls.cancel.Statement.{statement}
 use Rattle.simula.proofs.sequencing_calls.cancel.Tie as tie

@@ -1,12 +1,12 @@
 use mathlib.Core.Path.{sym, _∙_}
-use Rattle.model.specs.Ready.{judged-ready}
-use Rattle.sequencing.specs.Promise.{ready-takeable}
+use Rattle.model_laws.specs.Ready.{judged-ready}
+use Rattle.simulation_laws.specs.Promise.{ready-takeable}
 use mathlib.Core.List.{List}
 use Prim.Native.Nat.{ℕ}
-use Rattle.model.specs.Answers.{called-turned, called-fine}
-use Rattle.sequencing.specs.Procedures.{Sqs}
-use Rattle.sequencing.specs.Calls.{finishStep}
-use Rattle.sequencing.specs.ReadPromise.{on-marks}
+use Rattle.model_laws.specs.Called.{called-turned, called-fine}
+use Rattle.simulation_laws.specs.Procedures.{Sqs}
+use Rattle.simulation_laws.specs.Calls.{finishStep}
+use Rattle.simulation_laws.specs.ReadPromise.{on-marks}
 use borrow.Author.Needs.{needs}
 use Rattle.simula.proofs.sequencing_calls.finish.Statement.{statement}
 use Rattle.simula.proofs.sequencing_calls.finish.Tie as tie

@@ -1,7 +1,7 @@
 use mathlib.Core.Path.{sym, _∙_}
-use Rattle.model.specs.Ready.{judged-ready}
-use Rattle.sequencing.specs.Promise.{ready-judged}
-use Rattle.model.specs.Answers.{asked-turned, asked-fine}
+use Rattle.model_laws.specs.Ready.{judged-ready}
+use Rattle.simulation_laws.specs.Promise.{ready-judged}
+use Rattle.model_laws.specs.Called.{asked-turned, asked-fine}
 use borrow.Author.Needs.{needs}
 use Rattle.simula.proofs.sequencing_queries.idle.Statement.{statement}
 use Rattle.simula.proofs.sequencing_queries.idle.Tie as tie

@@ -1,4 +1,4 @@
-use Rattle.model.specs.Answers.{asked-turned, asked-fine}
+use Rattle.model_laws.specs.Called.{asked-turned, asked-fine}
 use borrow.Author.Needs.{needs}
 use Rattle.simula.proofs.sequencing_queries.terminated.Statement.{statement}
 use Rattle.simula.proofs.sequencing_queries.terminated.Tie as tie

@@ -1,8 +1,8 @@
-use Rattle.sets.specs.Calls.{clearStep}
+use Rattle.simset_laws.specs.Calls.{clearStep}
 use mathlib.Core.Path.{sym, _∙_}
-use Rattle.model.specs.Ready.{judged-ready}
-use Rattle.model.specs.Answers.{called-turned, called-fine}
-use Rattle.sets.specs.Promise.{on-links}
+use Rattle.model_laws.specs.Ready.{judged-ready}
+use Rattle.model_laws.specs.Called.{called-turned, called-fine}
+use Rattle.simset_laws.specs.Promise.{on-links}
 use borrow.Author.Needs.{needs}
 use Rattle.simula.proofs.set_calls.clear.Statement.{statement}
 use Rattle.simula.proofs.set_calls.clear.Tie as tie

@@ -1,8 +1,8 @@
-use Rattle.sets.specs.Calls.{precedeStep}
+use Rattle.simset_laws.specs.Calls.{precedeStep}
 use mathlib.Core.Path.{sym, _∙_}
-use Rattle.model.specs.Ready.{judged-ready}
-use Rattle.model.specs.Answers.{called-turned, called-fine}
-use Rattle.sets.specs.Promise.{on-links}
+use Rattle.model_laws.specs.Ready.{judged-ready}
+use Rattle.model_laws.specs.Called.{called-turned, called-fine}
+use Rattle.simset_laws.specs.Promise.{on-links}
 use borrow.Author.Needs.{needs}
 use Rattle.simula.proofs.set_calls.precede.Statement.{statement}
 use Rattle.simula.proofs.set_calls.precede.Tie as tie

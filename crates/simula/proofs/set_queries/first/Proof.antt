@@ -1,6 +1,6 @@
 use mathlib.Core.Path.{sym, _∙_}
-use Rattle.model.specs.Ready.{judged-ready}
-use Rattle.model.specs.Answers.{asked-turned, asked-fine}
+use Rattle.model_laws.specs.Ready.{judged-ready}
+use Rattle.model_laws.specs.Called.{asked-turned, asked-fine}
 use borrow.Author.Needs.{needs}
 use Rattle.simula.proofs.set_queries.first.Statement.{statement}
 use Rattle.simula.proofs.set_queries.first.Tie as tie

@@ -1,4 +1,4 @@
-use Rattle.sequencing.specs.Sign.{above-none, above-cast, above-is}
+use Rattle.simulation_laws.specs.Sign.{above-none, above-cast, above-is}
 use Rattle.simulation.proofs.activation.above_zero.Statement.{statement}
 use Rattle.simulation.proofs.activation.above_zero.Tie as tie
 

@@ -1,5 +1,5 @@
 use borrow.Author.Needs.{needs}
-use Rattle.sequencing.specs.Promise.{read-past}
+use Rattle.simulation_laws.specs.Promise.{read-past}
 use Rattle.simulation.proofs.axis.due.Statement.{statement}
 use Rattle.simulation.proofs.axis.due.Tie as tie
 

@@ -1,5 +1,5 @@
 use borrow.Author.Needs.{needs}
-use Rattle.sequencing.specs.Promise.{stored-past}
+use Rattle.simulation_laws.specs.Promise.{stored-past}
 use Rattle.simulation.proofs.axis.mark.Statement.{statement}
 use Rattle.simulation.proofs.axis.mark.Tie as tie
 

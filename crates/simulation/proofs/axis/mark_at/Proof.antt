@@ -1,5 +1,5 @@
 use borrow.Author.Needs.{needs}
-use Rattle.sequencing.specs.Promise.{read-past}
+use Rattle.simulation_laws.specs.Promise.{read-past}
 use Rattle.simulation.proofs.axis.mark_at.Statement.{statement}
 use Rattle.simulation.proofs.axis.mark_at.Tie as tie
 

@@ -1,6 +1,6 @@
 use borrow.Author.Needs.{needs}
 use native.Mathlib.Omega.{arith}
-use Rattle.sequencing.specs.Promise.{capped-fine, capped-over}
+use Rattle.simulation_laws.specs.Promise.{capped-fine, capped-over}
 use mathlib.Core.Path.{sym}
 use Rattle.simulation.proofs.axis.plus.Statement.{statement}
 use Rattle.simulation.proofs.axis.plus.Tie as tie

@@ -1,5 +1,5 @@
 use mathlib.Core.Path.{refl}
-use Rattle.sequencing.specs.Promise.{first-at}
+use Rattle.simulation_laws.specs.Promise.{first-at}
 use Rattle.simulation.proofs.Chained.{hold-5, hold-0}
 use borrow.Author.Needs.{needs}
 use native.Mathlib.Omega.{arith}

@@ -1,4 +1,4 @@
-use Rattle.sequencing.specs.Promise.{first-at}
+use Rattle.simulation_laws.specs.Promise.{first-at}
 use borrow.Author.Needs.{needs}
 use Rattle.simulation.proofs.Chained.{passive-4, passive-0}
 use Rattle.simulation.proofs.procedures.passivate.Statement.{statement}

@@ -1,6 +1,6 @@
 use lib.IntN.{pos}
-use Rattle.sequencing.specs.StepPromise.{process-in}
-use Rattle.sets.specs.Promise.{passed}
+use Rattle.simulation_laws.specs.StepPromise.{process-in}
+use Rattle.simset_laws.specs.Promise.{passed}
 use Rattle.simulation.proofs.ByFirst.{soon-3, soon-0}
 use borrow.Author.Needs.{needs}
 use native.Mathlib.Omega.{arith}

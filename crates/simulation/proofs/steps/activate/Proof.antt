@@ -1,7 +1,7 @@
-use Rattle.sequencing.specs.Sign.{above-passed}
-use Rattle.sets.specs.Promise.{failed, passed}
-use Rattle.sequencing.specs.Calls.{timedStep}
-use Rattle.sequencing.specs.StepPromise.{clause-in, x-in, y-in, refused-3, passed-3}
+use Rattle.simulation_laws.specs.Sign.{above-passed}
+use Rattle.simset_laws.specs.Promise.{failed, passed}
+use Rattle.simulation_laws.specs.Calls.{timedStep}
+use Rattle.simulation_laws.specs.StepPromise.{clause-in, x-in, y-in, refused-3, passed-3}
 use borrow.Author.Needs.{needs}
 use native.Mathlib.Omega.{arith}
 use Rattle.simulation.proofs.steps.activate.Statement.{statement}

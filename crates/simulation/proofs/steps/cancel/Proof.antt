@@ -1,6 +1,6 @@
-use Rattle.sets.specs.Promise.{failed, passed}
-use Rattle.sequencing.specs.Calls.{cancelStep}
-use Rattle.sequencing.specs.StepPromise.{process-in, refused-3, passed-3}
+use Rattle.simset_laws.specs.Promise.{failed, passed}
+use Rattle.simulation_laws.specs.Calls.{cancelStep}
+use Rattle.simulation_laws.specs.StepPromise.{process-in, refused-3, passed-3}
 use borrow.Author.Needs.{needs}
 use native.Mathlib.Omega.{arith}
 use Rattle.simulation.proofs.steps.cancel.Statement.{statement}

@@ -1,4 +1,4 @@
-use Rattle.sequencing.specs.StepPromise.{finish-main, finish-other}
+use Rattle.simulation_laws.specs.StepPromise.{finish-main, finish-other}
 use borrow.Author.Needs.{needs}
 use Rattle.simulation.proofs.steps.finish.Statement.{statement}
 use Rattle.simulation.proofs.steps.finish.Tie as tie

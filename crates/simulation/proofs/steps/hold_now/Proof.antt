@@ -1,5 +1,5 @@
-use Rattle.sequencing.specs.Sign.{above-passed}
-use Rattle.sequencing.specs.Calls.{holdStep}
+use Rattle.simulation_laws.specs.Sign.{above-passed}
+use Rattle.simulation_laws.specs.Calls.{holdStep}
 use borrow.Author.Needs.{needs}
 use Rattle.simulation.proofs.steps.hold_now.Statement.{statement}
 use Rattle.simulation.proofs.steps.hold_now.Tie as tie

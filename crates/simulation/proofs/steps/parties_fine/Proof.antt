@@ -1,4 +1,4 @@
-use Rattle.sequencing.specs.StepPromise.{need-clause, need-x, need-plain, need-y}
+use Rattle.simulation_laws.specs.StepPromise.{need-clause, need-x, need-plain, need-y}
 use borrow.Author.Needs.{needs}
 use Rattle.simulation.proofs.steps.parties_fine.Statement.{statement}
 use Rattle.simulation.proofs.steps.parties_fine.Tie as tie

@@ -1,4 +1,4 @@
-use Rattle.sequencing.specs.Calls.{passivateStep}
+use Rattle.simulation_laws.specs.Calls.{passivateStep}
 use borrow.Author.Needs.{needs}
 use Rattle.simulation.proofs.steps.passivate.Statement.{statement}
 use Rattle.simulation.proofs.steps.passivate.Tie as tie

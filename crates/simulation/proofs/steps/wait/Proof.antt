@@ -1,6 +1,6 @@
-use Rattle.sequencing.specs.Promise.{first-at}
-use Rattle.sets.specs.Promise.{failed, passed, none-or, head-in}
-use Rattle.sequencing.specs.StepPromise.{wait-3, wait-4, wait-0, first-low}
+use Rattle.simulation_laws.specs.Promise.{first-at}
+use Rattle.simset_laws.specs.Promise.{failed, passed, none-or, head-in}
+use Rattle.simulation_laws.specs.StepPromise.{wait-3, wait-4, wait-0, first-low}
 use borrow.Author.Needs.{needs}
 use native.Mathlib.Omega.{arith}
 use Rattle.simulation.proofs.steps.wait.Statement.{statement}

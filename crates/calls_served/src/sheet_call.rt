@@ -1,0 +1,18 @@
+// Call 41: the layout of a sheet. Answers the number of its records.
+use crate::reply::Reply;
+use crate::reply::accepted;
+use crate::reply::refused;
+use sheet_check::check::check;
+use sheet::header::Checked;
+
+pub(crate) fn has(call: u32) -> bool {
+    call == 41
+}
+
+pub(crate) fn answer(sheet: &[u8]) -> Reply {
+    let c = check(sheet);
+    match c {
+        Checked::Accepted(h) => accepted(h.records as u64),
+        Checked::Refused(r) => refused(r),
+    }
+}

@@ -1,0 +1,2 @@
+-- laws that the code's proofs cite
+pub mod Filling

@@ -1,0 +1,3 @@
+-- laws that the code's proofs cite
+pub mod AxisCode
+pub mod Verdicts

@@ -1,0 +1,67 @@
+-- Reading tables that spell the machine's lists: current, time, first members and so every operand are the machine's.
+use Prim.Native.Nat.{ℕ, _+_, _-_, _<_, _≤_}
+use mathlib.Core.Path.{_≡_, refl, sym, ap, _∙_}
+use mathlib.Core.Logic.{inl}
+use mathlib.Core.Bool.{true}
+use mathlib.Core.List.{List, [], _∷_}
+use native.Mathlib.Omega.{arith}
+use lib.Dec.{ltb, eqb}
+use borrow.Author.Tests.{leb-true, leb-false, ltb-false, eqb-false, lt-ltb}
+use Rattle.ring_laws.specs.Lists.{In, test}
+use Rattle.ring_laws.specs.Chain.{Chain}
+use Rattle.ring_laws.specs.Rings.{Head}
+use Rattle.ring_laws.specs.Stores.{sucs, pres, suc-at}
+use Rattle.model.specs.declared.Counts.{Counts}
+use Rattle.model.specs.Counts.{total, isHead}
+use Rattle.model_laws.specs.Tables.{Tables, Lists, Sized, setHead, membersOf, SpellsSets, Spells}
+use Rattle.model_laws.specs.NowLaws.{current-now, time-now}
+use Rattle.model_laws.specs.Now.{time, current, timeOf, half}
+use Rattle.simset_laws.specs.Procedures as procedures
+use Rattle.simset_laws.specs.Sets.{noLinks}
+use Rattle.simset_laws.specs.Laws.{set-head}
+use Rattle.simset_laws.specs.QueryLaws.{or-link, or-none, empty-says}
+use Rattle.simset_laws.specs.Meaning.{head-of}
+use Rattle.sheet.specs.Accepted.{isOperand}
+use Rattle.sheet.specs.Fields.{operand-high}
+use Rattle.machine.specs.Steps.{firstIn, operandOf}
+use Rattle.run_laws.specs.OnTables.{currentAt, firstAt, operandWith, operandAt}
+
+-- the successor of a head is its first member, none where it has none
+first-of : (m H : ℕ) (sets : List (List ℕ)) (t : List ℕ) → SpellsSets m H sets t → (h : ℕ) → Head m (setHead H) h → procedures.sucOf H h t ≡ firstIn (membersOf sets h)
+first-of m H sets t s h a = go (membersOf sets h) (s .spelled .rings .ring h a) (λ y i. leb-false y H (s .spelled .rings .only h y a i .isn't))
+  where
+    go : (l : List ℕ) → Chain (sucs m t) (pres m t) h l h → ((y : ℕ) → In y l → H < y) → procedures.sucOf H h t ≡ firstIn l
+    go [] c f = ap (procedures.linkOr H) (sym (suc-at m t h (a .within)) ∙ c .next) ∙ or-none H h (leb-true h H (a .is))
+    go (z ∷ l) c f = ap (procedures.linkOr H) (sym (suc-at m t h (a .within)) ∙ c .0 .next) ∙ or-link H z (f z (inl refl))
+
+module _ (c : Counts) (l : Lists) (t : Tables) (w : Sized c t) (s : Spells c l t) where
+  pub current-at : currentAt c (t .axis) ≡ current l
+  current-at = current-now c l t s
+
+  pub time-at : timeOf (half c) (t .axis) (t .times) ≡ time l
+  time-at = time-now c l t s
+
+  pub first-at : (h : ℕ) → 1 ≤ h → h ≤ c .heads → firstAt c (t .links) h ≡ firstIn (membersOf (l .sets) h)
+  first-at h a b = first-of (total c + 1) (c .heads) (l .sets) (t .links) (s .links) h (set-head (total c + 1) (c .heads) h a b (omega arith))
+
+  -- a number below 65,536 stands for itself
+  pub operand-plain : (v : ℕ) → v < 65536 → (operandAt c (t .links) (t .axis) v ≡ v) × (operandOf l v ≡ v)
+  unfolding operandWith operandOf
+  operand-plain v h = rw (lt-ltb v 65536 h) (refl, refl)
+
+  pub operand-at : (v : ℕ) → isOperand c v ≡ true → operandAt c (t .links) (t .axis) v ≡ operandOf l v
+  unfolding operandWith operandOf
+  operand-at v o =
+      test (ltb v 65536)
+      (λ e. rw e)
+      (λ e. test (eqb v 65536)
+      (λ q. rw (e, q) current-at)
+      (λ q. let h = operand-high c (w .allowed) v o (above v (ltb-false v 65536 e) (eqb-false v 65536 q)) in
+      rw (e, q) (first-at (v - 65536) (h .0) (h .1))))
+    where
+      above : (v : ℕ) → 65536 ≤ v → (v ≡ 65536 → ⊥) → 65536 < v
+      above v a b = omega arith
+
+  -- whether head x is empty
+  pub empty-at : (x : ℕ) → isHead c x ≡ true → procedures.emptyOf x (t .links) ≡ noLinks (membersOf (l .sets) x)
+  empty-at x e = empty-says (total c + 1) (c .heads) (l .sets) (t .links) (s .links) (omega arith) x (head-of c x e)

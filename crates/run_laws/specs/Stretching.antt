@@ -1,0 +1,224 @@
+-- A stretch of turns: while a process stays current its position is kept beside the tables, and is put there when the stretch ends.
+use Prim.Native.Nat.{ℕ, _+_, _*_, _-_, _/_, _≤_, _<_}
+use mathlib.Core.Path.{_≡_, refl, sym, ap, subst, _∙_}
+use mathlib.Core.Logic.{_≢_}
+use mathlib.Core.Bool.{true, false, _&&_}
+use mathlib.Core.List.{List}
+use native.Mathlib.Omega.{arith}
+use lib.Dec.{eqb}
+use lib.IntN.{ℤ}
+use lib.ListN.{length, getD, set, length-set}
+use lib.Seq.{set-set}
+use borrow.Author.Tests.{ne-eqb}
+use Rattle.ring_laws.specs.Lists.{clash}
+use Rattle.model.specs.declared.Counts.{Counts}
+use Rattle.model.specs.declared.Refusal.{Refusal}
+use Rattle.model.specs.Counts.{linkageAt}
+use Rattle.model_laws.specs.Tables.{Tables}
+use Rattle.model_laws.specs.Now.{half, firstOf}
+use Rattle.sheet.specs.declared.records.Record.{Record}
+use Rattle.sheet.specs.Sheet.{recordOffset}
+use Rattle.trace.specs.Lines.{put, lineBytes}
+use Rattle.machine.specs.declared.End.the-variants.{Refused as Ended}
+use Rattle.run_laws.specs.declared.Effect.the-variants.{Refused}
+use Rattle.run_laws.specs.declared.Pause.the-variants.{Full, Apart, Refused as Stopped}
+use Rattle.run_laws.specs.Run.{RunTables, On, recordGot, endsNow, RanOn, stoppedOn, turnsOn}
+use Rattle.run_laws.specs.Performed.{Performed, performed, turnedBy}
+use Rattle.run_laws.specs.Tried.{apart, tried, isApart, apart-0, made-of, not-apart, left-of}
+use Rattle.run_laws.specs.Paused.{Paused}
+use Rattle.run_laws.specs.Needs.{Performable}
+use Rattle.run_laws.specs.Reads.{got-end}
+use Rattle.run_laws.specs.Standing.{Standing, place-in, positions-length, number-in}
+use Rattle.run_laws.specs.StepIs.{Went, stayed}
+use Rattle.run_laws.specs.Turning.{Turning, turning-start, line-fits, same-lengths}
+use Rattle.run_laws.specs.Running.{Here, positioned, as-positioned, here-positioned, callable, ends, turned-down, goes-on, moved-on, stays-here}
+
+pub record Stretching (c : Counts) (bytes : List ℕ) (n₀ : ℕ) (whole : RanOn) (u₀ : RunTables) (tr₀ : List ℕ) (end at f time r : ℕ) (u : RunTables) (tr : List ℕ) : Type 0 where
+  pub turning : Turning c bytes (length tr₀ / 16) (at / 16) whole u₀ tr₀ (positioned u f r) tr
+  pub here : Here c (positioned u f r) f time r
+  pub begun : 16 * n₀ ≤ at
+  pub even : at ≡ 16 * (at / 16)
+  pub end-is : end ≡ 16 * (length tr₀ / 16)
+
+pub stretching-start : (c : Counts) (bytes : List ℕ) (n : ℕ) (u : RunTables) (tr : List ℕ) (f time r : ℕ) → Standing c bytes u → length tr ≤ 65536 → n ≤ length tr / 16
+    → f ≡ firstOf (half c) (u .model .axis) → time ≡ getD (u .model .times) f 0 → r ≡ getD (u .positions) f 0
+    → Stretching c bytes n (turnsOn c bytes n (length tr / 16 - n) u tr) u tr (16 * (length tr / 16)) (16 * n) f time r u tr
+stretching-start c bytes n u tr f time r s l h ef et er =
+    let z : 16 * n / 16 ≡ n = omega arith in
+    record {
+      turning =
+          subst (λ (v : RunTables). Turning c bytes (length tr / 16) (16 * n / 16) (turnsOn c bytes n (length tr / 16 - n) u tr) u tr v tr) (as-positioned u f r er)
+          (subst (λ (j : ℕ). Turning c bytes (length tr / 16) j (turnsOn c bytes n (length tr / 16 - n) u tr) u tr u tr) (sym z)
+          (turning-start c bytes n (length tr / 16 - n) u tr s l (omega arith)));
+      here = here-positioned c u f time r ef et er;
+      begun = omega arith;
+      even = omega arith;
+      end-is = refl;
+    }
+
+module _ (c : Counts) (bytes : List ℕ) (n₀ : ℕ) (whole : RanOn) (u₀ : RunTables) (tr₀ : List ℕ) (end at f time r : ℕ) (u : RunTables) (tr : List ℕ)
+    (s : Stretching c bytes n₀ whole u₀ tr₀ end at f time r u tr) where
+  abbrev room : ℕ
+  room = length tr₀ / 16
+
+  pub its-call : r ≢ 0 → Performable c bytes (recordOffset (c .processes) r) f time (u .model) (u .words)
+  its-call = callable c bytes room (at / 16) whole u₀ tr₀ (positioned u f r) tr (s .turning) f time r (s .here)
+
+  pub in-table : f < length (u .positions)
+  in-table =
+      omega (
+        arith,
+        length-set (u .positions) f r,
+        positions-length c bytes (positioned u f r) (s .turning .stands),
+        place-in c bytes (positioned u f r) (s .turning .stands) f (s .here .place-is),
+      )
+
+  -- tables of one sheet have one size
+  pub lengths : (length (u .model .links) ≡ length (u₀ .model .links)) × (length (u .model .axis) ≡ length (u₀ .model .axis))
+      × (length (u .model .times) ≡ length (u₀ .model .times)) × (length (u .positions) ≡ length (u₀ .positions)) × (length (u .words) ≡ length (u₀ .words))
+  lengths =
+      let e = same-lengths c bytes u₀ (positioned u f r) (s .turning .begun) (s .turning .stands) in
+      (e .0, e .1, e .2, sym (length-set (u .positions) f r) ∙ e .4, e .5)
+
+  pub its-number : c .heads + f < 4294967296
+  its-number = number-in c bytes (positioned u f r) (s .turning .stands) f (s .here .place-is)
+
+  pub most-bytes : at ≤ 65536
+  most-bytes = omega (arith, s .even, s .turning .few, s .turning .short)
+
+  room-left : at < end → at / 16 < room
+  room-left l = omega (arith, s .even, s .end-is)
+
+  pub its-line : at < end → at + 16 ≤ length tr
+  its-line l = omega (arith, s .even, line-fits c bytes room (at / 16) whole u₀ tr₀ (positioned u f r) tr (s .turning) (room-left l))
+
+  -- ---- a call that was made here
+
+  module _ (h : at < end) (p : Performed) (is : p ≡ tried c (recordGot (c .processes) bytes r) f (u .model) (u .words)) (m : isApart (p .effect) ≡ false) where
+    made : p ≡ performed c (recordGot (c .processes) bytes r) f (u .model) (u .words)
+    made = made-of c (recordGot (c .processes) bytes r) f (u .model) (u .words) p is m
+
+    -- main at position 0 is met apart
+    unfinished : endsNow c (u .model .axis) (set (u .positions) f r) ≡ false
+    unfinished =
+        sym (ends c bytes room (at / 16) whole u₀ tr₀ (positioned u f r) tr (s .turning) f time r (s .here) (eqb r 0 && eqb f 1) refl) ∙ rw (ne-eqb r 0 some) refl
+      where
+        some : r ≢ 0
+        some e =
+            let z = apart-0 (recordGot (c .processes) bytes r) (ap (λ (q : Record). q .operation) (sym (got-end (c .processes) bytes r e))) in
+            let y : true ≡ false = sym z ∙ not-apart c (recordGot (c .processes) bytes r) f (u .model) (u .words) p is m in
+            clash (sym y)
+
+    pub stopped : (x : Refusal) → p .effect ≡ Refused x → (n : ℕ) → n ≡ at / 16 → (ps : List ℕ) → ps ≡ set (u .positions) f r
+        → Paused c bytes n₀ whole tr₀ (record { model = p .tables; positions = ps; words = p .words }) tr (record { lines = n; pause = Stopped x })
+    stopped x e n en ps eps =
+        record {
+          stands = λ z. clash z;
+          size = s .turning .size;
+          more = omega (arith, s .begun, s .even);
+          few = omega (arith, s .turning .few);
+          left = λ k q.
+              ap (λ (l : List ℕ). stoppedOn n (Ended x) (record { model = p .tables; positions = l; words = p .words }) tr) eps
+              ∙ turned-down c bytes room (at / 16) whole u₀ tr₀ (positioned u f r) tr (s .turning) f time r (s .here) (room-left h) unfinished p made n en x e;
+          full = λ z. clash z;
+          due = λ z. clash z;
+        }
+
+    module _ (next : ℕ) (v : turnedBy (p .effect) (recordGot (c .processes) bytes r .next) ≡ On next) (tr′ : List ℕ) (z : length tr′ ≡ length tr) where
+      abbrev after : List ℕ → RunTables
+      after ps = record { model = p .tables; positions = ps; words = p .words }
+
+      one-more : (at + 16) / 16 ≡ at / 16 + 1
+      one-more = omega arith
+
+      turned : (ps : List ℕ) → Went c f time r (16 * (at / 16)) next (set (u .positions) f r) tr ps tr′
+          → Turning c bytes room ((at + 16) / 16) whole u₀ tr₀ (after ps) tr′
+      turned ps g =
+          subst (λ (j : ℕ). Turning c bytes room j whole u₀ tr₀ (after ps) tr′) (sym one-more)
+          (goes-on c bytes room (at / 16) whole u₀ tr₀ (positioned u f r) tr (s .turning) f time r (s .here) (room-left h) unfinished p made next v ps tr′ g z)
+
+      -- the process stays current, and its position is kept beside the table
+      pub stays : stayed (p .effect) ≡ true → tr′ ≡ put tr at (lineBytes time (linkageAt c f) r)
+          → Stretching c bytes n₀ whole u₀ tr₀ end (at + 16) f time next (after (u .positions)) tr′
+      stays st w =
+          record {
+            turning = turned (set (u .positions) f next) went;
+            here =
+                stays-here c bytes room (at / 16) whole u₀ tr₀ (positioned u f r) tr (s .turning) f time r (s .here) (room-left h) unfinished p made next v
+                (set (u .positions) f next) tr′ went st;
+            begun = omega (arith, s .begun);
+            even = omega (arith, s .even);
+            end-is = s .end-is;
+          }
+        where
+          went : Went c f time r (16 * (at / 16)) next (set (u .positions) f r) tr (set (u .positions) f next) tr′
+          went = record { positions = sym (set-set (u .positions) f r next); trace = w ∙ ap (λ (j : ℕ). put tr j (lineBytes time (linkageAt c f) r)) (s .even) }
+
+      -- another may be current
+      module _ (ps : List ℕ) (g : Went c f time r at next (u .positions) tr ps tr′) where
+        went : Went c f time r (16 * (at / 16)) next (set (u .positions) f r) tr ps tr′
+        went =
+            record {
+              positions = g .positions ∙ sym (set-set (u .positions) f r next);
+              trace = g .trace ∙ ap (λ (j : ℕ). put tr j (lineBytes time (linkageAt c f) r)) (s .even);
+            }
+
+        pub stands-on : Standing c bytes (after ps)
+        stands-on = turned ps went .stands
+
+        pub next-kept : next ≡ getD ps f 0
+        next-kept =
+            moved-on c bytes room (at / 16) whole u₀ tr₀ (positioned u f r) tr (s .turning) f time r (s .here) (room-left h) unfinished p made next v ps tr′ went
+
+        pub moves : (f′ time′ r′ : ℕ) → f′ ≡ firstOf (half c) (p .tables .axis) → time′ ≡ getD (p .tables .times) f′ 0 → r′ ≡ getD ps f′ 0
+            → Stretching c bytes n₀ whole u₀ tr₀ end (at + 16) f′ time′ r′ (after ps) tr′
+        moves f′ time′ r′ ef et er =
+            record {
+              turning = subst (λ (x : RunTables). Turning c bytes room ((at + 16) / 16) whole u₀ tr₀ x tr′) (as-positioned (after ps) f′ r′ er) (turned ps went);
+              here = here-positioned c (after ps) f′ time′ r′ ef et er;
+              begun = omega (arith, s .begun);
+              even = omega (arith, s .even);
+              end-is = s .end-is;
+            }
+
+  -- ---- the position goes to the table
+
+  module _ (n : ℕ) (en : n ≡ at / 16) where
+    rest-is : (k : ℕ) → n + k ≡ room → turnsOn c bytes n k (positioned u f r) tr ≡ whole
+    rest-is k q = ap (λ (j : ℕ). turnsOn c bytes j k (positioned u f r) tr) en ∙ s .turning .same k (omega arith)
+
+    -- where there is no room for a line
+    pub fills : end ≤ at → (ps : List ℕ) → ps ≡ set (u .positions) f r
+        → Paused c bytes n₀ whole tr₀ (record { model = u .model; positions = ps; words = u .words }) tr (record { lines = n; pause = Full })
+    fills l ps eps =
+        subst (λ (l : List ℕ). Paused c bytes n₀ whole tr₀ (record { model = u .model; positions = l; words = u .words }) tr (record { lines = n; pause = Full })) (sym eps)
+        (record {
+          stands = λ z. s .turning .stands;
+          size = s .turning .size;
+          more = omega (arith, s .begun, s .even);
+          few = omega (arith, s .turning .few);
+          left = rest-is;
+          full = λ z. omega (arith, s .even, s .end-is);
+          due = λ z. clash z;
+        })
+
+    -- and before a call that is made apart
+    module _ (h : at < end) (p : Performed) (is : p ≡ tried c (recordGot (c .processes) bytes r) f (u .model) (u .words)) (m : isApart (p .effect) ≡ true) where
+      pub waits : (ps : List ℕ) → ps ≡ set (u .positions) f r
+          → Paused c bytes n₀ whole tr₀ (record { model = p .tables; positions = ps; words = p .words }) tr (record { lines = n; pause = Apart })
+      waits ps eps =
+          let d = left-of c (recordGot (c .processes) bytes r) f (u .model) (u .words) p is m in
+          let same : positioned u f r ≡ record { model = p .tables; positions = ps; words = p .words } =
+          ap (λ (t : Tables). record { model = t; positions = set (u .positions) f r; words = u .words }) (sym (d .1))
+          ∙ ap (λ (w : List ℤ). record { model = p .tables; positions = set (u .positions) f r; words = w }) (sym (d .2))
+          ∙ ap (λ (l : List ℕ). record { model = p .tables; positions = l; words = p .words }) (sym eps) in
+          subst (λ (v : RunTables). Paused c bytes n₀ whole tr₀ v tr (record { lines = n; pause = Apart })) same
+          (record {
+            stands = λ z. s .turning .stands;
+            size = s .turning .size;
+            more = omega (arith, s .begun, s .even);
+            few = omega (arith, s .turning .few);
+            left = rest-is;
+            full = λ z. clash z;
+            due = λ z. (omega (arith, room-left h), ap (λ (j : ℕ). apart (recordGot (c .processes) bytes j)) (sym (s .here .record-is)) ∙ d .0);
+          })

@@ -1,0 +1,128 @@
+-- The calls that a stretch of turns makes itself, and those that are made apart. It is a matter of speed alone: what a call leaves is
+-- `performed` for all of them.
+use Prim.Native.Nat.{ℕ, _≤_}
+use mathlib.Core.Path.{_≡_, refl, sym, ap, _∙_}
+use mathlib.Core.Logic.{_≢_}
+use mathlib.Core.Bool.{Bool, true, false, not, _&&_, _||_}
+use mathlib.Core.List.{List}
+use lib.Dec.{eqb}
+use lib.IntN.{ℤ}
+use borrow.Author.Tests.{ne-eqb}
+use Rattle.ring_laws.specs.Lists.{if_then_else_, test, clash}
+use Rattle.model.specs.declared.Counts.{Counts}
+use Rattle.model.specs.declared.answer.Answer.{Answer}
+use Rattle.model.specs.declared.answer.Answer.the-variants.{Done, Linkage, Number, Truth, Refused as NotDone}
+use Rattle.model_laws.specs.Tables.{Tables}
+use Rattle.simset_laws.specs.Procedures.{emptyOf}
+use Rattle.sheet.specs.declared.records.Record.{Record}
+use Rattle.machine.specs.Calls.{Call}
+use Rattle.run_laws.specs.OnTables.{carriedOut}
+use Rattle.run_laws.specs.declared.Effect.{Effect}
+use Rattle.run_laws.specs.declared.Effect.the-variants.{Stays, Jumps, Moves, Refused, Apart}
+use Rattle.run_laws.specs.Run.{resolved, callDue}
+use Rattle.run_laws.specs.Which.{the-rest}
+use Rattle.run_laws.specs.Performed.{callEffect, stays-or-moves, effectOf, unlessRefused, Performed, performed}
+
+-- out, into, hold, wait, if-empty and accum are made in a stretch,
+abbrev pub madeHere : ℕ → Bool
+madeHere o = eqb o 1 || (eqb o 4 || (eqb o 6 || (eqb o 8 || (eqb o 12 || eqb o 13))))
+
+-- and activate with no clause or after a delay
+abbrev pub madeSoon : ℕ → Bool
+madeSoon k = eqb k 0 || eqb k 2
+
+unfoldable pub apart : Record → Bool
+apart q = if eqb (q .operation) 10 then not (madeSoon (q .clause)) else not (madeHere (q .operation))
+
+-- a call that is made apart is not made, and nothing has changed
+unfoldable pub tried : Counts → Record → ℕ → Tables → List ℤ → Performed
+tried c q f t w = if apart q then record { tables = t; words = w; effect = Apart } else performed c q f t w
+
+-- ---- by the operation
+
+module _ (q : Record) where
+  pub here : (n : ℕ) → eqb n 10 ≡ false → madeHere n ≡ true → q .operation ≡ n → apart q ≡ false
+  unfolding apart
+  here n t m e = rw (e, t, m)
+
+  pub here-soon : (k : ℕ) → madeSoon k ≡ true → q .operation ≡ 10 → q .clause ≡ k → apart q ≡ false
+  unfolding apart
+  here-soon k m e z = rw (e, z, m)
+
+  pub apart-0 : q .operation ≡ 0 → apart q ≡ true
+  unfolding apart
+  apart-0 e = rw e
+
+  pub apart-10 : q .operation ≡ 10 → q .clause ≢ 2 → q .clause ≢ 0 → apart q ≡ true
+  unfolding apart
+  apart-10 e n z = rw (e, ne-eqb (q .clause) 2 n, ne-eqb (q .clause) 0 z)
+
+  pub apart-other : (o : ℕ) → o ≡ q .operation → o ≢ 1 → o ≢ 4 → o ≢ 6 → o ≢ 8 → o ≢ 10 → o ≢ 12 → o ≢ 13 → apart q ≡ true
+  unfolding apart
+  apart-other o e a b c d f g h =
+      rw (← e, ne-eqb o 1 a, ne-eqb o 4 b, ne-eqb o 6 c, ne-eqb o 8 d, ne-eqb o 10 f, ne-eqb o 12 g, ne-eqb o 13 h)
+
+  -- past the arms of those that are made apart, 10 and 11 are left
+  pub left-apart : (o : ℕ) → o ≡ q .operation → apart q ≡ true → 1 ≤ o → o ≤ 13 → o ≢ 2 → o ≢ 3 → o ≢ 5 → o ≢ 7 → o ≢ 9 → (10 ≤ o) × (o ≤ 11)
+  left-apart o is a lo hi n2 n3 n5 n7 n9 =
+      the-rest o lo hi (no 1 (here 1 refl refl)) n2 n3 (no 4 (here 4 refl refl)) n5 (no 6 (here 6 refl refl)) n7 (no 8 (here 8 refl refl)) n9 (no 12 (here 12 refl refl)) (no 13 (here 13 refl refl))
+    where
+      no : (k : ℕ) → (q .operation ≡ k → apart q ≡ false) → o ≢ k
+      no k h e = let z : true ≡ false = sym a ∙ h (sym is ∙ e) in clash (sym z)
+
+-- ---- what was tried
+
+abbrev pub isApart : Effect → Bool
+isApart Stays = false
+isApart (Jumps y) = false
+isApart Moves = false
+isApart (Refused r) = false
+isApart Apart = true
+
+module _ (c : Counts) (q : Record) (f : ℕ) (t : Tables) (w : List ℤ) where
+  pub tried-not : apart q ≡ true → record { tables = t; words = w; effect = Apart } ≡ tried c q f t w
+  unfolding tried
+  tried-not e = rw e
+
+  pub tried-made : apart q ≡ false → (o : Performed) → o ≡ performed c q f t w → o ≡ tried c q f t w
+  unfolding tried
+  tried-made e o eo = rw e eo
+
+  never : (k : Call) (none : Bool) (a : Answer) → isApart (unlessRefused a (effectOf k q none)) ≡ false
+  unfolding effectOf
+  never k none = go
+    where
+      on : isApart (if eqb (q .operation) 12 && none then Jumps (q .y) else callEffect k) ≡ false
+      on = test (eqb (q .operation) 12 && none) (λ e. rw e refl) (λ e. rw e (stays-or-moves (λ (v : Effect). isApart v ≡ false) refl refl k))
+
+      go : (a : Answer) → isApart (unlessRefused a (if eqb (q .operation) 12 && none then Jumps (q .y) else callEffect k)) ≡ false
+      go Done = on
+      go (Linkage x) = on
+      go (Number n) = on
+      go (Truth b) = on
+      go (NotDone r) = refl
+
+  made-here : isApart (performed c q f t w .effect) ≡ false
+  unfolding performed
+  made-here = never (callDue (resolved c (t .links) f q)) (emptyOf (resolved c (t .links) f q .x) (t .links)) (carriedOut c (callDue (resolved c (t .links) f q)) t w .answer)
+
+  module _ (o : Performed) (is : o ≡ tried c q f t w) where
+    told : isApart (o .effect) ≡ isApart (tried c q f t w .effect)
+    told = ap (λ (p : Performed). isApart (p .effect)) is
+
+    pub not-apart : isApart (o .effect) ≡ false → apart q ≡ false
+    unfolding tried
+    not-apart e = test (apart q) (λ a. let z : true ≡ false = sym (rw a at told) ∙ e in clash (sym z)) (λ a. a)
+
+    -- it was made here
+    pub made-of : isApart (o .effect) ≡ false → o ≡ performed c q f t w
+    unfolding tried
+    made-of e = rw (not-apart e) at is
+
+    -- or it is left, with all as it was
+    pub left-of : isApart (o .effect) ≡ true → (apart q ≡ true) × (o .tables ≡ t) × (o .words ≡ w)
+    unfolding tried
+    left-of e =
+        test (apart q)
+        (λ a. (a, ap (λ (p : Performed). p .tables) (rw a at is), ap (λ (p : Performed). p .words) (rw a at is)))
+        (λ a. let z : true ≡ false = sym e ∙ (rw a at told) ∙ made-here in clash (sym z))

@@ -1,0 +1,98 @@
+-- Which call a record's operation is, with its operands resolved.
+use Prim.Native.Nat.{ℕ, _+_, _≤_}
+use mathlib.Core.Path.{_≡_, sym, _∙_}
+use mathlib.Core.Logic.{_≢_}
+use mathlib.Core.List.{List}
+use native.Mathlib.Omega.{arith}
+use lib.Dec.{eqb}
+use borrow.Author.Tests.{eq-eqb, ne-eqb, lt-ltb}
+use Rattle.ring_laws.specs.Lists.{decide}
+use Rattle.model.specs.declared.Counts.{Counts}
+use Rattle.simset_laws.specs.Plain.{clear, into, precede, follow, out}
+use Rattle.sheet.specs.declared.records.Record.{Record}
+use Rattle.machine.specs.Calls.{onSet, hold, passivate, wait, cancel, activate, ifEmpty, finish, Call, onList, accum}
+use Rattle.machine.specs.Steps.{callOf}
+use Rattle.run_laws.specs.OnTables.{operandWith}
+use Rattle.run_laws.specs.Run.{resolved, callDue}
+
+module _ (c : Counts) (links : List ℕ) (f : ℕ) (q : Record) where
+  abbrev x : ℕ
+  x = operandWith c links f (q .x)
+
+  abbrev y : ℕ
+  y = operandWith c links f (q .y)
+
+  abbrev due : Call
+  due = callDue (resolved c links f q)
+
+  some : (n : ℕ) → q .operation ≡ n → n ≢ 0 → due ≡ callOf q x y
+  unfolding callDue resolved callOf
+  some n e z = rw (ne-eqb (q .operation) 0 (λ o. z (sym e ∙ o)))
+
+  pub call-0 : q .operation ≡ 0 → due ≡ onList finish
+  unfolding callDue resolved
+  call-0 e = rw (eq-eqb (q .operation) 0 e)
+
+  pub call-1 : q .operation ≡ 1 → due ≡ onList (onSet (out x))
+  unfolding callOf
+  call-1 e = some 1 e (λ z. omega arith) ∙ (rw e)
+
+  pub call-2 : q .operation ≡ 2 → due ≡ onList (onSet (follow x y))
+  unfolding callOf
+  call-2 e = some 2 e (λ z. omega arith) ∙ (rw e)
+
+  pub call-3 : q .operation ≡ 3 → due ≡ onList (onSet (precede x y))
+  unfolding callOf
+  call-3 e = some 3 e (λ z. omega arith) ∙ (rw e)
+
+  pub call-4 : q .operation ≡ 4 → due ≡ onList (onSet (into x y))
+  unfolding callOf
+  call-4 e = some 4 e (λ z. omega arith) ∙ (rw e)
+
+  pub call-5 : q .operation ≡ 5 → due ≡ onList (onSet (clear x))
+  unfolding callOf
+  call-5 e = some 5 e (λ z. omega arith) ∙ (rw e)
+
+  pub call-6 : q .operation ≡ 6 → due ≡ onList (hold (q .t))
+  unfolding callOf
+  call-6 e = some 6 e (λ z. omega arith) ∙ (rw e)
+
+  pub call-7 : q .operation ≡ 7 → due ≡ onList passivate
+  unfolding callOf
+  call-7 e = some 7 e (λ z. omega arith) ∙ (rw e)
+
+  pub call-8 : q .operation ≡ 8 → due ≡ onList (wait y)
+  unfolding callOf
+  call-8 e = some 8 e (λ z. omega arith) ∙ (rw e)
+
+  pub call-9 : q .operation ≡ 9 → due ≡ onList (cancel x)
+  unfolding callOf
+  call-9 e = some 9 e (λ z. omega arith) ∙ (rw e)
+
+  -- 10 and 11
+  pub call-timed : 10 ≤ q .operation → q .operation ≤ 11 → due ≡ onList (activate (eqb (q .operation) 11) (q .clause) x y (q .t))
+  unfolding callOf
+  call-timed l m =
+      decide (q .operation) 10
+      (λ e. some 10 e (λ z. omega arith) ∙ (rw e))
+      (λ n. let e : q .operation ≡ 11 = omega arith in some 11 e (λ z. omega arith) ∙ (rw e))
+
+  pub call-12 : q .operation ≡ 12 → due ≡ onList (ifEmpty x)
+  unfolding callOf
+  call-12 e = some 12 e (λ z. omega arith) ∙ (rw e)
+
+  -- "in 13, x is 1 to 64": it stands for itself
+  pub call-13 : q .operation ≡ 13 → q .x ≤ 64 → due ≡ accum (q .x) (q .t)
+  unfolding callOf operandWith
+  call-13 e l = some 13 e (λ z. omega arith) ∙ (rw (e, lt-ltb (q .x) 65536 (omega arith)))
+
+-- past 9, without 12 and 13
+past : (n k : ℕ) → k ≤ n → n ≢ k → k + 1 ≤ n
+past n k l d = omega arith
+
+pub the-rest : (n : ℕ) → 1 ≤ n → n ≤ 13 → n ≢ 1 → n ≢ 2 → n ≢ 3 → n ≢ 4 → n ≢ 5 → n ≢ 6 → n ≢ 7 → n ≢ 8 → n ≢ 9 → n ≢ 12 → n ≢ 13 → (10 ≤ n) × (n ≤ 11)
+the-rest n s l b c d e f g h i j k m =
+    (past n 9 (past n 8 (past n 7 (past n 6 (past n 5 (past n 4 (past n 3 (past n 2 (past n 1 s b) c) d) e) f) g) h) i) j, most n l k m)
+  where
+    most : (n : ℕ) → n ≤ 13 → n ≢ 12 → n ≢ 13 → n ≤ 11
+    most n l k m = omega arith

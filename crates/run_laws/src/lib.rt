@@ -1,0 +1,38 @@
+// Runs of model sheets: what a run call does to its tables and trace, that this is the plain machine's, and demand 3, in specs/. The code
+// is in `run_step`, `run_turns`, `run_fresh` and `run`.
+use model::Refusal;
+use machine::End;
+
+// What a run call answers: how many lines it wrote, and how it ended.
+pub struct Ran {
+    pub lines: u32,
+    pub end: End,
+}
+
+// What a step's call means for the process that makes it.
+pub enum Effect {
+    // It stays current, and goes on at the record's next,
+    Stays,
+    // or at y, where 12 finds the head empty.
+    Jumps(u32),
+    // Another may be current now.
+    Moves,
+    Refused(Refusal),
+    // The call is one of those that are made apart; it is not made yet.
+    Apart,
+}
+
+// Why a stretch of turns ends.
+pub enum Pause {
+    // The trace has no room for a line more.
+    Full,
+    // The call that is due is made apart.
+    Apart,
+    Refused(Refusal),
+}
+
+// A stretch of turns: how many lines the trace has after it, and why it ends.
+pub struct Stretch {
+    pub lines: usize,
+    pub pause: Pause,
+}

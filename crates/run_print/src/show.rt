@@ -1,0 +1,166 @@
+// The whole run: pieces of 4,096 lines up to 1,000,000 steps, then how it ended.
+use crate::output::flushed;
+use crate::output::put_count;
+use crate::output::put_number;
+use crate::output::put_text;
+use crate::output::write_first;
+use crate::piece::piece;
+use crate::piece::put_lines;
+use model::Counts;
+use model::Refusal;
+use machine::End;
+use ring::wide;
+use run::fresh::fresh_run;
+use sheet::header::Header;
+ghost use Prim.Native.Nat.{_+_, _≤_};
+ghost use lib.ListN.{length};
+
+// Lines of a whole piece, and pieces: 244 whole ones and one of 576 lines are 1,000,000.
+pub const LINES: usize = 4096;
+
+pub const WHOLE: usize = 244;
+
+// Trace bytes for piece i.
+fn room(i: usize) -> usize {
+    if i < WHOLE {
+        return 65536;
+    }
+    9216
+}
+
+fn done(out: &mut [u8; 4096], start: usize, word: &[u8], steps: u64)
+    requires { ⌜ length (now word) ≤ 12 ⌝ }
+{
+    let at = flushed(out, start);
+    let a = put_text(out, at, word);
+    let b = put_number(out, a, steps, b'\n');
+    write_first(out, b);
+}
+
+// "refused N at record R after S"
+fn refused(out: &mut [u8; 4096], start: usize, q: Refusal, rec: u32, steps: u64) {
+    let at = flushed(out, start);
+    let a = put_text(out, at, b"refused ");
+    let b = put_count(out, a, q.number(), b' ');
+    let c = put_text(out, b, b"at record ");
+    let d = put_count(out, c, rec, b' ');
+    let e = put_text(out, d, b"after ");
+    let f = put_number(out, e, steps, b'\n');
+    write_first(out, f);
+}
+
+// The record that current is at.
+fn record_now(c: Counts, axis: &[u32], positions: &[u32]) -> u32 {
+    let p = wide(c.processes) + 1;
+    if axis.len() <= p {
+        return 0;
+    }
+    let f = wide(axis[p]);
+    if positions.len() <= f {
+        return 0;
+    }
+    positions[f]
+}
+
+fn pieces(
+    c: Counts,
+    sheet: &[u8],
+    links: &mut [u32],
+    axis: &mut [u32],
+    times: &mut [u64],
+    marks: &mut [u8],
+    positions: &mut [u32],
+    accums: &mut [i64],
+    trace: &mut [u8],
+) {
+    let mut out = [0u8; 4096];
+    let mut at = 0;
+    let mut i = 0;
+    while i <= WHOLE {
+        let ran = piece(
+            sheet,
+            links,
+            axis,
+            times,
+            marks,
+            positions,
+            accums,
+            trace,
+            room(i),
+        );
+        let n = ran.lines;
+        at = put_lines(&mut out, at, trace, n);
+        let steps = (i * LINES) as u64 + n as u64;
+        let end = ran.end;
+        match end {
+            End::Finished => {
+                done(&mut out, at, b"finished ", steps);
+                return;
+            }
+            End::Refused(q) => {
+                refused(&mut out, at, q, record_now(c, axis, positions), steps);
+                return;
+            }
+            End::Full => {
+                i += 1;
+            }
+        }
+    }
+    done(&mut out, at, b"stopped ", 1000000);
+}
+
+// A fresh run over local tables, cut to the sheet's lengths.
+pub(crate) fn show(header: Header, sheet: &[u8]) {
+    let c = header.counts;
+    let n = c.total() + 1;
+    let p = wide(c.processes) + 1;
+    let mut links = [0u32; 8194];
+    let mut axis = [0u32; 2052];
+    let mut times = [0u64; 1025];
+    let mut marks = [0u8; 1025];
+    let mut positions = [0u32; 1025];
+    let mut accums = [0i64; 192];
+    let mut trace = [0u8; 65536];
+    if 8194 < 2 * n {
+        return;
+    }
+    if 1025 < p {
+        return;
+    }
+    on_tables(
+        c,
+        sheet,
+        &mut links[..2 * n],
+        &mut axis[..2 * (p + 1)],
+        &mut times[..p],
+        &mut marks[..p],
+        &mut positions[..p],
+        &mut accums,
+        &mut trace,
+    );
+}
+
+fn on_tables(
+    c: Counts,
+    sheet: &[u8],
+    links: &mut [u32],
+    axis: &mut [u32],
+    times: &mut [u64],
+    marks: &mut [u8],
+    positions: &mut [u32],
+    accums: &mut [i64],
+    trace: &mut [u8],
+) {
+    fresh_run(sheet, links, axis, times, marks, positions, accums);
+    pieces(
+        c,
+        sheet,
+        links,
+        axis,
+        times,
+        marks,
+        positions,
+        accums,
+        trace,
+    );
+}

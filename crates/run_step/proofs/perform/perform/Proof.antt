@@ -1,0 +1,47 @@
+use mathlib.Core.Path.{sym, ap}
+use Rattle.sheet.specs.declared.records.Record.{Record}
+use Rattle.run_laws.specs.Reads.{got-end}
+use Rattle.run_laws.specs.Run.{recordGot}
+use Rattle.run_laws.specs.Tried.{apart-0, tried-not}
+use Rattle.run_laws.specs.Performing.{tried-at}
+use borrow.Author.Needs.{needs}
+use native.Mathlib.Omega.{arith}
+use Rattle.run_step.proofs.perform.perform.Statement.{statement}
+use Rattle.run_step.proofs.perform.perform.Tie as tie
+
+returns : tie.Need-returns
+returns c = tried-not _ _ _ _ _ (apart-0 (recordGot (c .before .before .before .before .before .before .args .c .processes) (c .before .before .before .before .before .before .args .sheet .now) (c .before .before .before .before .before .before .args .r)) (ap (λ (q : Record). q .operation) (sym (got-end _ _ _ (c .if1 .taken)))))
+
+record-offset-requires : tie.Need-record-offset-requires
+record-offset-requires c κs = omega (arith, c .if1 .left)
+
+perform-at-requires : tie.Need-perform-at-requires
+perform-at-requires c κs = rw (c .before .before .before .before .record-offset .ensures) ((c .before .before .before .before .before .before .before .before .before .before .before .pre) (c .before .before .before .before .before .if1 .left))
+
+same-length : tie.Need-same-length
+same-length c = search needs
+
+same-length-2 : tie.Need-same-length-2
+same-length-2 c = search needs
+
+same-length-3 : tie.Need-same-length-3
+same-length-3 c = search needs
+
+same-length-4 : tie.Need-same-length-4
+same-length-4 c = search needs
+
+returns-2 : tie.Need-returns-2
+returns-2 c = tried-at _ _ _ _ (c .before .before .before .before .before .before .before .before .before .before .before .before .before .if1 .left) (c .before .before .before .before .before .before .before .before .before .before .before .before .record-offset .ensures) _ _ _ _ (c .before .before .before .before .before .before .before .perform-at .ensures)
+
+pub perform-spec : {M : Type 1} → statement M
+perform-spec =
+    tie.close
+    (tie.spec
+    returns
+    record-offset-requires
+    perform-at-requires
+    same-length
+    same-length-2
+    same-length-3
+    same-length-4
+    returns-2)

@@ -1,0 +1,54 @@
+use Rattle.run_laws.specs.Reads.{operand-low, operand-current, above, head-within, operand-first}
+use borrow.Author.Needs.{needs}
+use native.Mathlib.Omega.{arith}
+use Rattle.run_step.proofs.reading.operand.Statement.{statement}
+use Rattle.run_step.proofs.reading.operand.Tie as tie
+
+wide-requires : tie.Need-wide-requires
+wide-requires c κs = search needs
+
+total-requires : tie.Need-total-requires
+total-requires c κs = search needs
+
+returns : tie.Need-returns
+returns c = operand-low _ _ _ _ (c .before .before .before .before .pre .0) (omega (arith, c .if1 .taken, c .before .before .wide .ensures, c .before .total .ensures))
+
+add-result : tie.Need-add-result
+add-result c = omega (arith, c .before .before .before .before .before .before .pre .0 .allowed .heads-in, c .before .before .before .before .before .before .pre .0 .allowed .processes-in, c .before .before .before .before .before .before .pre .0 .place-in)
+
+returns-2 : tie.Need-returns-2
+returns-2 c = operand-current _ _ _ _ (c .before .before .before .before .before .before .pre .0) (c .before .if2 .taken)
+
+sub-wide : tie.Need-sub-wide
+sub-wide c = above _ _ _ _ (c .before .before .before .before .before .pre .0) (c .before .before .before .before .before .pre .1) (omega (arith, c .before .if1 .left, c .before .before .total .ensures, c .before .before .before .wide .ensures)) (c .if2 .left) .0
+
+wide-requires-2 : tie.Need-wide-requires-2
+wide-requires-2 c κs = search needs
+
+mul-link-or : tie.Need-mul-link-or
+mul-link-or c = search needs
+
+shared-slice-read-link-or : tie.Need-shared-slice-read-link-or
+shared-slice-read-link-or c = head-within _ _ _ _ (c .before .before .before .before .before .before .before .pre .0) (c .before .before .before .before .before .before .before .pre .1) (omega (arith, c .before .before .before .if1 .left, c .before .before .before .before .total .ensures, c .before .before .before .before .before .wide .ensures)) (c .before .before .if2 .left) _ (c .before .wide2 .ensures)
+
+link-or-requires : tie.Need-link-or-requires
+link-or-requires c κs = search needs
+
+returns-3 : tie.Need-returns-3
+returns-3 c = operand-first _ _ _ _ (c .before .before .before .before .before .before .before .before .pre .0) (c .before .before .before .before .before .before .before .before .pre .1) (omega (arith, c .before .before .before .before .if1 .left, c .before .before .before .before .before .total .ensures, c .before .before .before .before .before .before .wide .ensures)) (c .before .before .before .if2 .left) _ (c .before .before .wide2 .ensures) _ (c .link-or .ensures)
+
+pub operand-spec : {M : Type 1} → statement M
+operand-spec =
+    tie.close
+    (tie.spec
+    wide-requires
+    total-requires
+    returns
+    add-result
+    returns-2
+    sub-wide
+    wide-requires-2
+    mul-link-or
+    shared-slice-read-link-or
+    link-or-requires
+    returns-3)

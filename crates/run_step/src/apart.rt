@@ -1,0 +1,92 @@
+// The calls that are made apart from a stretch of turns: the rarer ones, and finish.
+use crate::arms::cancel_of;
+use crate::arms::clear_of;
+use crate::arms::follow_of;
+use crate::arms::precede_of;
+use crate::arms::timed_of;
+use crate::perform::unless_refused;
+use model::Counts;
+use model::verdict::Verdict;
+use run_laws::Effect;
+use sheet::records::operation_at;
+use sheet::records::record_offset;
+use simulation::steps::finish;
+use simulation::steps::passivate;
+ghost use mathlib.Core.Path.{_≡_};
+ghost use mathlib.Core.Logic.{_≢_};
+ghost use mathlib.Core.Bool.{true};
+ghost use mathlib.Core.List.{List};
+ghost use lib.IntN.{ℤ};
+ghost use Rattle.model_laws.specs.Ready.{Ready};
+ghost use Rattle.sheet.specs.Sheet.{recordOffset, recordFrom};
+ghost use Rattle.run_laws.specs.Needs.{Callable};
+ghost use Rattle.run_laws.specs.Run.{recordGot};
+ghost use Rattle.run_laws.specs.Performed.{verdictBy, performed};
+ghost use Rattle.run_laws.specs.Tried.{apart};
+
+// Whether a call was refused.
+pub fn verdict_of(e: Effect) -> Verdict
+    ensures { λ r. ⌜ r ≡ verdictBy e ⌝ }
+{
+    match e {
+        Effect::Stays => Verdict::Fine,
+        Effect::Jumps(_) => Verdict::Fine,
+        Effect::Moves => Verdict::Fine,
+        Effect::Refused(q) => Verdict::Refused(q),
+        Effect::Apart => Verdict::Fine,
+    }
+}
+
+// The record whose bytes begin at i: an arm for each operation, and one for activate and reactivate. No accumulator is changed.
+fn apart_at(
+    c: Counts,
+    sheet: &[u8],
+    i: usize,
+    f: u32,
+    links: &mut [u32],
+    axis: &mut [u32],
+    times: &mut [u64],
+    marks: &[u8],
+) -> Effect
+    requires { ⌜ Callable c (now sheet) i f (record { links = now links; axis = now axis; times = now times; marks = now marks }) ⌝ }
+    requires { ⌜ apart (recordFrom (now sheet) i) ≡ true ⌝ }
+    ensures { λ r. ⌜ ((w : List ℤ) → record { tables = record { links = now (links .exit); axis = now (axis .exit); times = now (times .exit); marks = now (marks .exit) }; words = w; effect = r }
+        ≡ performed c (recordFrom (now (sheet .entry)) i) f (record { links = now (links .entry); axis = now (axis .entry); times = now (times .entry); marks = now (marks .entry) }) w) ⌝ }
+{
+    let op = operation_at(sheet, i);
+    match op {
+        2 => unless_refused(follow_of(c, sheet, i, links, f), Effect::Stays),
+        3 => unless_refused(precede_of(c, sheet, i, links, f), Effect::Stays),
+        5 => unless_refused(clear_of(c, sheet, i, links, f), Effect::Stays),
+        7 => unless_refused(passivate(c, axis, times), Effect::Moves),
+        9 => unless_refused(cancel_of(c, sheet, i, links, axis, times, f), Effect::Moves),
+        _ => unless_refused(
+            timed_of(c, sheet, i, links, axis, times, marks, f, op == 11),
+            Effect::Moves,
+        ),
+    }
+}
+
+// Record r, or finish at 0; f is current's place.
+pub fn perform_apart(
+    c: Counts,
+    sheet: &[u8],
+    r: u32,
+    f: u32,
+    links: &mut [u32],
+    axis: &mut [u32],
+    times: &mut [u64],
+    marks: &mut [u8],
+) -> Effect
+    requires { ⌜ (r ≢ 0 → Callable c (now sheet) (recordOffset (c .processes) r) f (record { links = now links; axis = now axis; times = now times; marks = now marks })) ⌝ }
+    requires { ⌜ Ready c (record { links = now links; axis = now axis; times = now times; marks = now marks }) ⌝ }
+    requires { ⌜ apart (recordGot (c .processes) (now sheet) r) ≡ true ⌝ }
+    ensures { λ v. ⌜ ((w : List ℤ) → record { tables = record { links = now (links .exit); axis = now (axis .exit); times = now (times .exit); marks = now (marks .exit) }; words = w; effect = v }
+        ≡ performed c (recordGot (c .processes) (now (sheet .entry)) r) f (record { links = now (links .entry); axis = now (axis .entry); times = now (times .entry); marks = now (marks .entry) }) w) ⌝ }
+{
+    if r == 0 {
+        return unless_refused(finish(c, axis, times, marks), Effect::Moves);
+    }
+    let i = record_offset(c.processes, r);
+    apart_at(c, sheet, i, f, links, axis, times, marks)
+}

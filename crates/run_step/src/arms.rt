@@ -1,0 +1,217 @@
+// The calls of a record whose bytes begin at i, one for each operation that reads operands: an operand is resolved where its call uses it.
+use crate::reading::x_of;
+use crate::reading::y_of;
+use model::Counts;
+use model::answer::Answer;
+use sheet::records::clause_at;
+use sheet::records::t_at;
+use sheet::records::x_at;
+use simset::steps::clear;
+use simset::steps::follow;
+use simset::steps::into;
+use simset::steps::out;
+use simset::steps::precede;
+use simulation::soon::activate_after;
+use simulation::soon::activate_now;
+use simulation::steps::activate;
+use simulation::steps::cancel;
+use simulation::steps::hold_now;
+use simulation::steps::wait;
+use accum_update::flat::update_in;
+ghost use mathlib.Core.Path.{_≡_};
+ghost use mathlib.Core.Bool.{false};
+ghost use Prim.Native.Nat.{_+_, _*_, _≤_};
+ghost use lib.IntN.{pos};
+ghost use lib.ListN.{length};
+ghost use Rattle.model.specs.Counts.{total, limit};
+ghost use Rattle.model_laws.specs.Now.{half};
+ghost use Rattle.simset_laws.specs.Calls.{outStep, followStep, precedeStep, intoStep, clearStep};
+ghost use Rattle.simset_laws.specs.Promise.{Moved};
+ghost use Rattle.simulation_laws.specs.Calls.{holdStep, cancelStep, timedStep, waitStep};
+ghost use Rattle.simulation_laws.specs.Promise.{sqs, Answers, Judged, Takeable, Noticed};
+ghost use Rattle.simulation_laws.specs.StepPromise.{WaitMade};
+ghost use Rattle.accum_laws.specs.Flat.{updatedIn};
+ghost use Rattle.sheet.specs.Sheet.{recordFrom};
+ghost use Rattle.run_laws.specs.OnTables.{operandWith};
+ghost use Rattle.run_laws.specs.Needs.{Readable};
+
+pub(crate) fn out_of(c: Counts, sheet: &[u8], i: usize, links: &mut [u32], f: u32) -> Answer
+    requires { ⌜ Readable c (now sheet) i (now links) f (recordFrom (now sheet) i .x) ⌝ }
+    ensures { λ r. ⌜ Moved (total c + 1) (outStep c (operandWith c (now (links .entry)) f (recordFrom (now (sheet .entry)) i .x)) (now (links .entry))) (record { links = now (links .exit); answer = r }) ⌝ }
+{
+    let x = x_of(c, sheet, i, links, f);
+    out(c, links, x)
+}
+
+pub(crate) fn follow_of(c: Counts, sheet: &[u8], i: usize, links: &mut [u32], f: u32) -> Answer
+    requires { ⌜ Readable c (now sheet) i (now links) f (recordFrom (now sheet) i .x) ⌝ }
+    requires { ⌜ Readable c (now sheet) i (now links) f (recordFrom (now sheet) i .y) ⌝ }
+    ensures { λ r. ⌜ Moved (total c + 1) (followStep c (operandWith c (now (links .entry)) f (recordFrom (now (sheet .entry)) i .x)) (operandWith c (now (links .entry)) f (recordFrom (now (sheet .entry)) i .y)) (now (links .entry))) (record { links = now (links .exit); answer = r }) ⌝ }
+{
+    let x = x_of(c, sheet, i, links, f);
+    let y = y_of(c, sheet, i, links, f);
+    follow(c, links, x, y)
+}
+
+pub(crate) fn precede_of(c: Counts, sheet: &[u8], i: usize, links: &mut [u32], f: u32) -> Answer
+    requires { ⌜ Readable c (now sheet) i (now links) f (recordFrom (now sheet) i .x) ⌝ }
+    requires { ⌜ Readable c (now sheet) i (now links) f (recordFrom (now sheet) i .y) ⌝ }
+    ensures { λ r. ⌜ Moved (total c + 1) (precedeStep c (operandWith c (now (links .entry)) f (recordFrom (now (sheet .entry)) i .x)) (operandWith c (now (links .entry)) f (recordFrom (now (sheet .entry)) i .y)) (now (links .entry))) (record { links = now (links .exit); answer = r }) ⌝ }
+{
+    let x = x_of(c, sheet, i, links, f);
+    let y = y_of(c, sheet, i, links, f);
+    precede(c, links, x, y)
+}
+
+pub(crate) fn into_of(c: Counts, sheet: &[u8], i: usize, links: &mut [u32], f: u32) -> Answer
+    requires { ⌜ Readable c (now sheet) i (now links) f (recordFrom (now sheet) i .x) ⌝ }
+    requires { ⌜ Readable c (now sheet) i (now links) f (recordFrom (now sheet) i .y) ⌝ }
+    ensures { λ r. ⌜ Moved (total c + 1) (intoStep c (operandWith c (now (links .entry)) f (recordFrom (now (sheet .entry)) i .x)) (operandWith c (now (links .entry)) f (recordFrom (now (sheet .entry)) i .y)) (now (links .entry))) (record { links = now (links .exit); answer = r }) ⌝ }
+{
+    let x = x_of(c, sheet, i, links, f);
+    let y = y_of(c, sheet, i, links, f);
+    into(c, links, x, y)
+}
+
+pub(crate) fn clear_of(c: Counts, sheet: &[u8], i: usize, links: &mut [u32], f: u32) -> Answer
+    requires { ⌜ Readable c (now sheet) i (now links) f (recordFrom (now sheet) i .x) ⌝ }
+    ensures { λ r. ⌜ Moved (total c + 1) (clearStep c (operandWith c (now (links .entry)) f (recordFrom (now (sheet .entry)) i .x)) (now (links .entry))) (record { links = now (links .exit); answer = r }) ⌝ }
+{
+    let x = x_of(c, sheet, i, links, f);
+    clear(c, links, x)
+}
+
+pub(crate) fn hold_of(
+    c: Counts,
+    sheet: &[u8],
+    i: usize,
+    axis: &mut [u32],
+    times: &mut [u64],
+    f: u32,
+    time: u64,
+) -> Answer
+    requires { ⌜ i + 24 ≤ length (now sheet) ⌝ }
+    requires { ⌜ Takeable c (now axis) (now times) ⌝ }
+    requires { ⌜ Noticed (half c) f time (now axis) (now times) ⌝ }
+    ensures { λ r. ⌜ Answers (half c) (holdStep c (recordFrom (now (sheet .entry)) i .t) (sqs (now (axis .entry)) (now (times .entry)))) (now (axis .exit)) (now (times .exit)) r ⌝ }
+{
+    let t = t_at(sheet, i);
+    hold_now(c, axis, times, f, time, t)
+}
+
+pub(crate) fn wait_of(
+    c: Counts,
+    sheet: &[u8],
+    i: usize,
+    links: &mut [u32],
+    axis: &mut [u32],
+    times: &mut [u64],
+    f: u32,
+) -> Answer
+    requires { ⌜ Readable c (now sheet) i (now links) f (recordFrom (now sheet) i .y) ⌝ }
+    requires { ⌜ Takeable c (now axis) (now times) ⌝ }
+    ensures { λ r. ⌜ WaitMade c (waitStep c (operandWith c (now (links .entry)) f (recordFrom (now (sheet .entry)) i .y)) (now (links .entry)) (sqs (now (axis .entry)) (now (times .entry)))) (now (links .exit)) (now (axis .exit)) (now (times .exit)) r ⌝ }
+{
+    let y = y_of(c, sheet, i, links, f);
+    wait(c, links, axis, times, y)
+}
+
+pub(crate) fn cancel_of(
+    c: Counts,
+    sheet: &[u8],
+    i: usize,
+    links: &[u32],
+    axis: &mut [u32],
+    times: &mut [u64],
+    f: u32,
+) -> Answer
+    requires { ⌜ Readable c (now sheet) i (now links) f (recordFrom (now sheet) i .x) ⌝ }
+    requires { ⌜ Judged c (now axis) ⌝ }
+    ensures { λ r. ⌜ Answers (half c) (cancelStep c (operandWith c (now (links .entry)) f (recordFrom (now (sheet .entry)) i .x)) (sqs (now (axis .entry)) (now (times .entry)))) (now (axis .exit)) (now (times .exit)) r ⌝ }
+{
+    let x = x_of(c, sheet, i, links, f);
+    cancel(c, axis, times, x)
+}
+
+fn wide_clause(k: u8) -> u32
+    ensures { λ r. ⌜ r ≡ k ⌝ }
+{
+    k as u32
+}
+
+// Activate with no clause.
+pub(crate) fn direct_of(
+    c: Counts,
+    sheet: &[u8],
+    i: usize,
+    links: &[u32],
+    axis: &mut [u32],
+    times: &mut [u64],
+    marks: &[u8],
+    f: u32,
+    time: u64,
+) -> Answer
+    requires { ⌜ Readable c (now sheet) i (now links) f (recordFrom (now sheet) i .x) ⌝ }
+    requires { ⌜ Judged c (now axis) ⌝ }
+    requires { ⌜ Noticed (half c) f time (now axis) (now times) ⌝ }
+    ensures { λ r. ⌜ Answers (half c) (timedStep c false 0 (operandWith c (now (links .entry)) f (recordFrom (now (sheet .entry)) i .x)) 0 (pos 0) (now (marks .entry)) (sqs (now (axis .entry)) (now (times .entry)))) (now (axis .exit)) (now (times .exit)) r ⌝ }
+{
+    let x = x_of(c, sheet, i, links, f);
+    activate_now(c, axis, times, marks, f, time, x)
+}
+
+// Activate after a delay.
+pub(crate) fn delayed_of(
+    c: Counts,
+    sheet: &[u8],
+    i: usize,
+    links: &[u32],
+    axis: &mut [u32],
+    times: &mut [u64],
+    marks: &[u8],
+    f: u32,
+    time: u64,
+) -> Answer
+    requires { ⌜ Readable c (now sheet) i (now links) f (recordFrom (now sheet) i .x) ⌝ }
+    requires { ⌜ Judged c (now axis) ⌝ }
+    requires { ⌜ Noticed (half c) f time (now axis) (now times) ⌝ }
+    ensures { λ r. ⌜ Answers (half c) (timedStep c false 2 (operandWith c (now (links .entry)) f (recordFrom (now (sheet .entry)) i .x)) 0 (recordFrom (now (sheet .entry)) i .t) (now (marks .entry)) (sqs (now (axis .entry)) (now (times .entry)))) (now (axis .exit)) (now (times .exit)) r ⌝ }
+{
+    let x = x_of(c, sheet, i, links, f);
+    let t = t_at(sheet, i);
+    activate_after(c, axis, times, marks, f, time, x, t)
+}
+
+// Activate, and again: reactivate.
+pub(crate) fn timed_of(
+    c: Counts,
+    sheet: &[u8],
+    i: usize,
+    links: &[u32],
+    axis: &mut [u32],
+    times: &mut [u64],
+    marks: &[u8],
+    f: u32,
+    again: bool,
+) -> Answer
+    requires { ⌜ Readable c (now sheet) i (now links) f (recordFrom (now sheet) i .x) ⌝ }
+    requires { ⌜ Readable c (now sheet) i (now links) f (recordFrom (now sheet) i .y) ⌝ }
+    requires { ⌜ Judged c (now axis) ⌝ }
+    ensures { λ r. ⌜ Answers (half c) (timedStep c again (recordFrom (now (sheet .entry)) i .clause) (operandWith c (now (links .entry)) f (recordFrom (now (sheet .entry)) i .x)) (operandWith c (now (links .entry)) f (recordFrom (now (sheet .entry)) i .y)) (recordFrom (now (sheet .entry)) i .t) (now (marks .entry)) (sqs (now (axis .entry)) (now (times .entry)))) (now (axis .exit)) (now (times .exit)) r ⌝ }
+{
+    let x = x_of(c, sheet, i, links, f);
+    let y = y_of(c, sheet, i, links, f);
+    let k = wide_clause(clause_at(sheet, i));
+    let t = t_at(sheet, i);
+    activate(c, axis, times, marks, again, k, x, y, t)
+}
+
+pub(crate) fn accum_of(sheet: &[u8], i: usize, accums: &mut [i64], time: u64) -> Answer
+    requires { ⌜ i + 24 ≤ length (now sheet) ⌝ }
+    requires { ⌜ (1 ≤ recordFrom (now sheet) i .x) × (3 * recordFrom (now sheet) i .x ≤ length (now accums)) × (time ≤ limit) ⌝ }
+    ensures { λ r. ⌜ record { words = now (accums .exit); answer = r } ≡ updatedIn (recordFrom (now (sheet .entry)) i .x) time (recordFrom (now (sheet .entry)) i .t) (now (accums .entry)) ⌝ }
+{
+    let k = x_at(sheet, i);
+    let t = t_at(sheet, i);
+    update_in(accums, k, time, t)
+}

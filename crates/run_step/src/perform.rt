@@ -1,0 +1,126 @@
+// The calls that a stretch of turns makes itself, on judged tables, and what they mean for current.
+use crate::arms::accum_of;
+use crate::arms::delayed_of;
+use crate::arms::direct_of;
+use crate::arms::hold_of;
+use crate::arms::into_of;
+use crate::arms::out_of;
+use crate::arms::wait_of;
+use model::Counts;
+use model::Refusal;
+use model::answer::Answer;
+use ring::wide;
+use run_laws::Effect;
+use sheet::records::clause_at;
+use sheet::records::operation_at;
+use sheet::records::record_offset;
+use sheet::records::x_at;
+use sheet::records::y_at;
+ghost use mathlib.Core.Path.{_≡_};
+ghost use mathlib.Core.Logic.{_≢_};
+ghost use Prim.Native.Nat.{_<_};
+ghost use Rattle.sheet.specs.Sheet.{recordOffset, recordFrom};
+ghost use Rattle.run_laws.specs.Needs.{Readable, Performable};
+ghost use Rattle.run_laws.specs.Run.{recordGot};
+ghost use Rattle.run_laws.specs.Performed.{unlessRefused, branched};
+ghost use Rattle.run_laws.specs.Tried.{tried};
+
+// An accepted call means e.
+pub(crate) fn unless_refused(a: Answer, e: Effect) -> Effect
+    ensures { λ r. ⌜ r ≡ unlessRefused a e ⌝ }
+{
+    match a {
+        Answer::Done => e,
+        Answer::Linkage(_) => e,
+        Answer::Number(_) => e,
+        Answer::Truth(_) => e,
+        Answer::Refused(q) => Effect::Refused(q),
+    }
+}
+
+// 12: x is a head, or refusal 3; where it is empty, the process goes to y. No operand but a head's number stands for a head.
+fn branch(c: Counts, sheet: &[u8], i: usize, links: &[u32], f: u32) -> Effect
+    requires { ⌜ Readable c (now sheet) i (now links) f (recordFrom (now sheet) i .x) ⌝ }
+    requires { ⌜ 0 < f ⌝ }
+    ensures { λ r. ⌜ r ≡ branched c (recordFrom (now (sheet .entry)) i) f (now (links .entry)) ⌝ }
+{
+    let x = x_at(sheet, i);
+    let ok = c.is_head(x);
+    if !ok {
+        return Effect::Refused(Refusal::Operand);
+    }
+    let h = wide(x);
+    if links[h] == x {
+        return Effect::Jumps(y_at(sheet, i));
+    }
+    Effect::Stays
+}
+
+// The record whose bytes begin at i: an arm for each operation that is made here.
+fn perform_at(
+    c: Counts,
+    sheet: &[u8],
+    i: usize,
+    f: u32,
+    time: u64,
+    links: &mut [u32],
+    axis: &mut [u32],
+    times: &mut [u64],
+    marks: &[u8],
+    accums: &mut [i64],
+) -> Effect
+    requires { ⌜ Performable c (now sheet) i f time (record { links = now links; axis = now axis; times = now times; marks = now marks }) (now accums) ⌝ }
+    ensures { λ r. ⌜ record { tables = record { links = now (links .exit); axis = now (axis .exit); times = now (times .exit); marks = now (marks .exit) }; words = now (accums .exit); effect = r }
+        ≡ tried c (recordFrom (now (sheet .entry)) i) f (record { links = now (links .entry); axis = now (axis .entry); times = now (times .entry); marks = now (marks .entry) }) (now (accums .entry)) ⌝ }
+{
+    let op = operation_at(sheet, i);
+    match op {
+        1 => unless_refused(out_of(c, sheet, i, links, f), Effect::Stays),
+        4 => unless_refused(into_of(c, sheet, i, links, f), Effect::Stays),
+        6 => unless_refused(hold_of(c, sheet, i, axis, times, f, time), Effect::Moves),
+        8 => unless_refused(wait_of(c, sheet, i, links, axis, times, f), Effect::Moves),
+        10 => {
+            let k = clause_at(sheet, i);
+            if k == 2 {
+                return unless_refused(
+                    delayed_of(c, sheet, i, links, axis, times, marks, f, time),
+                    Effect::Moves,
+                );
+            }
+            if k == 0 {
+                return unless_refused(
+                    direct_of(c, sheet, i, links, axis, times, marks, f, time),
+                    Effect::Moves,
+                );
+            }
+            Effect::Apart
+        }
+        12 => branch(c, sheet, i, links, f),
+        13 => unless_refused(accum_of(sheet, i, accums, time), Effect::Stays),
+        _ => Effect::Apart,
+    }
+}
+
+// Record r, where its call is made here; f is current's place, and time its time.
+pub fn perform(
+    c: Counts,
+    sheet: &[u8],
+    r: u32,
+    f: u32,
+    time: u64,
+    links: &mut [u32],
+    axis: &mut [u32],
+    times: &mut [u64],
+    marks: &[u8],
+    accums: &mut [i64],
+) -> Effect
+    requires { ⌜ (r ≢ 0 → Performable c (now sheet) (recordOffset (c .processes) r) f time (record { links = now links; axis = now axis; times = now times; marks = now marks }) (now accums)) ⌝ }
+    ensures { λ v. ⌜ record { tables = record { links = now (links .exit); axis = now (axis .exit); times = now (times .exit); marks = now (marks .exit) }; words = now (accums .exit); effect = v }
+        ≡ tried c (recordGot (c .processes) (now (sheet .entry)) r) f (record { links = now (links .entry); axis = now (axis .entry); times = now (times .entry); marks = now (marks .entry) }) (now (accums .entry)) ⌝ }
+{
+    if r == 0 {
+        return Effect::Apart;
+    }
+    let i = record_offset(c.processes, r);
+    perform_at(c, sheet, i, f, time, links, axis, times, marks, accums)
+}

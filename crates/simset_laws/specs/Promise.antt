@@ -1,0 +1,83 @@
+-- What the calls' code promises and asks: refused, or moved with the table still sound; operands that passed lie in the table.
+use Prim.Native.Nat.{ℕ, zero, suc, _+_, _<_}
+use mathlib.Core.Path.{_≡_, refl, sym, ap, _∙_}
+use mathlib.Core.Bool.{Bool, true, false, not, _&&_, _||_}
+use mathlib.Core.List.{List}
+use native.Mathlib.Omega.{arith}
+use lib.Dec.{eqb, leb, ltb}
+use borrow.Author.Tests.{eqb-true, leb-true, le-leb, ne-eqb, not-true, not-false}
+use Rattle.ring_laws.specs.Lists.{clash}
+use Rattle.ring_laws.specs.Table.{Sound, Made}
+use Rattle.model.specs.declared.Counts.{Counts}
+use Rattle.model.specs.declared.Refusal.the-variants.{Operand}
+use Rattle.model.specs.Counts.{total, isHead, isLink, isLinkage, both}
+use Rattle.model.specs.declared.answer.Answer.{Answer}
+use Rattle.model.specs.declared.answer.Answer.the-variants.{Done, Refused}
+use Rattle.simset_laws.specs.Calls.{Linked, linkedIf, toldIf, orNone, onLinks}
+
+-- the links and the answer are as wanted, and the links are sound
+pub record Moved (m : ℕ) (want got : Linked) : Type 0 where
+  pub is : got ≡ want
+  pub sound : Sound m (got .links)
+
+-- ---- operands that passed
+
+pub link-in : (c : Counts) (x : ℕ) → isLink c x ≡ true → x < total c + 1
+link-in c x e = let p = both (ltb (c .heads) x) (leb x (total c)) e in omega (arith, leb-true x (total c) (p .1))
+
+pub linkage-in : (c : Counts) (x : ℕ) → isLinkage c x ≡ true → x < total c + 1
+linkage-in c x e = let p = both (leb 1 x) (leb x (total c)) e in omega (arith, leb-true x (total c) (p .1))
+
+pub head-in : (c : Counts) (x : ℕ) → isHead c x ≡ true → x < total c + 1
+head-in c x e = let p = both (leb 1 x) (leb x (c .heads)) e in omega (arith, leb-true x (c .heads) (p .1))
+
+or-either : (a b : Bool) → (a || b) ≡ true → (b ≡ false → a ≡ true)
+or-either true b e f = refl
+or-either false b e f = clash (sym f ∙ e)
+
+pub none-or : (b : Bool) (y n : ℕ) → (b ≡ true → y < n + 1) → orNone b y ≡ true → y < n + 1
+none-or true y n f e = f refl
+none-or false y n f e = let z : y ≡ 0 = eqb-true y 0 (or-either (eqb y 0) false e refl) in omega arith
+
+-- heads are numbered from 1, so that none needs no test of its own
+pub head-or : (h y : ℕ) → leb y h ≡ orNone (leb 1 y && leb y h) y
+head-or h zero = le-leb 0 h (omega arith)
+head-or h (suc y) = rw (ne-eqb (suc y) 0 (λ e. omega arith), le-leb 1 (suc y) (omega arith))
+
+-- ---- refused or done; the tests come in turn
+
+module _ (m : ℕ) (t u : List ℕ) where
+  pub moved-not : (b : Bool) → Sound m t → b ≡ false → Moved m (linkedIf b t u) (record { links = t; answer = Refused Operand })
+  moved-not b s e = rw e (record { is = refl; sound = s })
+
+  pub moved : (b : Bool) (v : List ℕ) → b ≡ true → Made m u v → Moved m (linkedIf b t u) (record { links = v; answer = Done })
+  moved b v e k = rw e (record { is = ap (λ (l : List ℕ). record { links = l; answer = Done }) (k .is); sound = k .sound })
+
+-- a test that the code makes, by its result
+pub failed : (a b : Bool) → a ≡ b → not a ≡ true → b ≡ false
+failed a b e n = sym e ∙ not-true a n
+
+pub passed : (a b : Bool) → a ≡ b → not a ≡ false → b ≡ true
+passed a b e n = sym e ∙ not-false a n
+
+pub first-failed : (a b d : Bool) → a ≡ b → not a ≡ true → (b && d) ≡ false
+first-failed a b d e n = rw (failed a b e n)
+
+pub second-failed : (a b p q : Bool) → a ≡ b → not a ≡ false → p ≡ q → not p ≡ true → (b && q) ≡ false
+second-failed a b p q e n f o = rw (passed a b e n) (failed p q f o)
+
+pub both-passed : (a b p q : Bool) → a ≡ b → not a ≡ false → p ≡ q → not p ≡ false → (b && q) ≡ true
+both-passed a b p q e n f o = rw (passed a b e n) (passed p q f o)
+
+pub told-not : (b : Bool) (a : Answer) → b ≡ false → Refused Operand ≡ toldIf b a
+told-not b a e = rw e
+
+pub told : (b : Bool) (a r : Answer) → b ≡ true → r ≡ a → r ≡ toldIf b a
+told b a r e f = rw e f
+
+-- a call that was made on the links, seen on the whole model
+pub on-links : (m : ℕ) (links axis times marks l : List ℕ) (a : Answer) (f : List ℕ → Linked) → Moved m (f links) (record { links = l; answer = a })
+    → record { tables = record { links = l; axis = axis; times = times; marks = marks }; answer = a }
+    ≡ onLinks f (record { links = links; axis = axis; times = times; marks = marks })
+on-links m links axis times marks l a f k =
+    ap (λ (g : Linked). record { tables = record { links = g .links; axis = axis; times = times; marks = marks }; answer = g .answer }) (k .is)

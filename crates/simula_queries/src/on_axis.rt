@@ -1,0 +1,89 @@
+// The sequencing queries on the tables of a judged model: refusal 3 by the operand's kind, or the answer.
+use model::Counts;
+use model::Refusal;
+use model::answer::Answer;
+use ring::wide;
+use simulation::axis::due;
+use simulation::axis::first;
+use simulation::axis::mark_at;
+use simulation::steps::current_link;
+ghost use mathlib.Core.Path.{_≡_};
+ghost use Prim.Native.Nat.{_+_};
+ghost use Rattle.simulation_laws.specs.Calls.{currentTold, timeTold, idleTold, terminatedTold, evtimeTold, nextevTold};
+ghost use Rattle.simulation_laws.specs.Promise.{sqs, Judged};
+
+pub fn current(c: Counts, axis: &[u32], times: &[u64]) -> Answer
+    requires { ⌜ Judged c (now axis) ⌝ }
+    ensures { λ r. ⌜ r ≡ currentTold c (sqs (now (axis .entry)) (now (times .entry))) ⌝ }
+{
+    let p = wide(c.processes);
+    let f = first(axis, p + 2);
+    Answer::Linkage(current_link(c, f))
+}
+
+pub fn time(c: Counts, axis: &[u32], times: &[u64]) -> Answer
+    requires { ⌜ Judged c (now axis) ⌝ }
+    ensures { λ r. ⌜ r ≡ timeTold c (sqs (now (axis .entry)) (now (times .entry))) ⌝ }
+{
+    let p = wide(c.processes);
+    let f = wide(first(axis, p + 2));
+    Answer::Number(due(times, f))
+}
+
+pub fn idle(c: Counts, axis: &[u32], times: &[u64], x: u32) -> Answer
+    requires { ⌜ Judged c (now axis) ⌝ }
+    ensures { λ r. ⌜ r ≡ idleTold c x (sqs (now (axis .entry)) (now (times .entry))) ⌝ }
+{
+    let ok = c.is_process(x);
+    if !ok {
+        return Answer::Refused(Refusal::Operand);
+    }
+    let q = wide(c.place_of(x));
+    Answer::Truth(axis[q] == 0)
+}
+
+pub fn terminated(c: Counts, marks: &[u8], x: u32) -> Answer
+    ensures { λ r. ⌜ r ≡ terminatedTold c x (now (marks .entry)) ⌝ }
+{
+    let ok = c.is_process(x);
+    if !ok {
+        return Answer::Refused(Refusal::Operand);
+    }
+    let q = wide(c.place_of(x));
+    Answer::Truth(mark_at(marks, q) == 1)
+}
+
+pub fn evtime(c: Counts, axis: &[u32], times: &[u64], x: u32) -> Answer
+    requires { ⌜ Judged c (now axis) ⌝ }
+    ensures { λ r. ⌜ r ≡ evtimeTold c x (sqs (now (axis .entry)) (now (times .entry))) ⌝ }
+{
+    let ok = c.is_process(x);
+    if !ok {
+        return Answer::Refused(Refusal::Operand);
+    }
+    let q = wide(c.place_of(x));
+    if axis[q] == 0 {
+        return Answer::Refused(Refusal::Idle);
+    }
+    Answer::Number(due(times, q))
+}
+
+pub fn nextev(c: Counts, axis: &[u32], times: &[u64], x: u32) -> Answer
+    requires { ⌜ Judged c (now axis) ⌝ }
+    ensures { λ r. ⌜ r ≡ nextevTold c x (sqs (now (axis .entry)) (now (times .entry))) ⌝ }
+{
+    let ok = c.is_process(x);
+    if !ok {
+        return Answer::Refused(Refusal::Operand);
+    }
+    let q = wide(c.place_of(x));
+    let s = axis[q];
+    if s == 0 {
+        return Answer::Linkage(0);
+    }
+    let p = wide(c.processes);
+    if wide(s) == p + 1 {
+        return Answer::Linkage(0);
+    }
+    Answer::Linkage(current_link(c, s))
+}

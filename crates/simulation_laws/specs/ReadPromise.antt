@@ -1,0 +1,103 @@
+-- What the queries' code answers, and calls seen on the whole model.
+use Prim.Native.Nat.{ℕ, _+_, _-_, _<_}
+use mathlib.Core.Path.{_≡_, refl, ap, _∙_, subst}
+use mathlib.Core.Logic.{_≢_}
+use mathlib.Core.Bool.{Bool, true, false, _||_}
+use mathlib.Core.List.{List}
+use native.Mathlib.Omega.{arith}
+use lib.Dec.{eqb}
+use lib.ListN.{getD}
+use borrow.Author.Tests.{eq-eqb, ne-eqb}
+use lib.IntN.{ℤ}
+use mir.Syntax.{w64}
+use mir.Val.{SFits, toZ, ofZ}
+use mir.ValLaws.{toZ-ofZ}
+use Rattle.model.specs.declared.Counts.{Counts}
+use Rattle.model.specs.declared.Refusal.the-variants.{Idle}
+use Rattle.model.specs.Counts.{isProcess, placeOf, linkageAt}
+use Rattle.model.specs.declared.answer.Answer.{Answer}
+use Rattle.model.specs.declared.answer.Answer.the-variants.{Linkage, Number, Refused}
+use Rattle.model_laws.specs.Now.{half}
+use Rattle.simulation_laws.specs.Procedures.{Sqs, Outcome}
+use Rattle.simulation_laws.specs.Calls.{Marked, Waited, onSqs, onMarks, onSets, currentTold, timeTold, evtimeTold, nextevTold}
+use Rattle.simulation_laws.specs.Promise.{sqs, Answers, Place, Read}
+use Rattle.simulation_laws.specs.StepPromise.{FinishMade, WaitMade, process-in}
+
+-- a process is a place of the axis
+pub is-in : (c : Counts) (x : ℕ) → isProcess c x ≡ true → placeOf c x < half c
+is-in c x e = process-in c x (rw e (or-true (eqb x 0)))
+  where
+    or-true : (b : Bool) → _≡_ {A = Bool} (b || true) true
+    or-true true = refl
+    or-true false = refl
+
+module _ (c : Counts) (axis times : List ℕ) where
+  pub current-told : (f x : ℕ) → Place (half c) (getD axis (half c - 1) 0) f → x ≡ c .heads + f → Linkage x ≡ currentTold c (sqs axis times)
+  unfolding currentTold
+  current-told f x p e = ap Linkage (e ∙ ap (linkageAt c) (p .is))
+
+  pub time-told : (f w v : ℕ) → Place (half c) (getD axis (half c - 1) 0) f → w ≡ f → Read w times v → Number v ≡ timeTold c (sqs axis times)
+  unfolding timeTold
+  time-told f w v p e r = ap Number (r .is ∙ ap (λ (j : ℕ). getD times j 0) (e ∙ p .is))
+
+  module _ (x : ℕ) (ok : isProcess c x ≡ true) (q : ℕ) (eq : q ≡ placeOf c x) where
+    pub evtime-idle : getD axis q 0 ≡ 0 → Refused Idle ≡ evtimeTold c x (sqs axis times)
+    unfolding evtimeTold
+    evtime-idle z = rw (ok, ← eq, eq-eqb (getD axis q 0) 0 z)
+
+    pub evtime-some : (v : ℕ) → getD axis q 0 ≢ 0 → Read q times v → Number v ≡ evtimeTold c x (sqs axis times)
+    unfolding evtimeTold
+    evtime-some v n r = rw (ok, ← eq, ne-eqb (getD axis q 0) 0 n) (ap Number (r .is))
+
+    pub nextev-idle : getD axis q 0 ≡ 0 → Linkage 0 ≡ nextevTold c x (sqs axis times)
+    unfolding nextevTold
+    nextev-idle z = rw (ok, ← eq, eq-eqb (getD axis q 0) 0 z)
+
+    module _ (n : getD axis q 0 ≢ 0) where
+      pub nextev-last : (w p : ℕ) → w ≡ getD axis q 0 → p ≡ c .processes → w ≡ p + 1 → Linkage 0 ≡ nextevTold c x (sqs axis times)
+      unfolding nextevTold
+      nextev-last w p ew ep e =
+          rw (ok, ← eq, ne-eqb (getD axis q 0) 0 n, eq-eqb (getD axis q 0) (half c - 1) (omega arith))
+
+      pub nextev-next : (w p v : ℕ) → w ≡ getD axis q 0 → p ≡ c .processes → w ≢ p + 1 → v ≡ c .heads + getD axis q 0 → Linkage v ≡ nextevTold c x (sqs axis times)
+      unfolding nextevTold
+      nextev-next w p v ew ep d e =
+          rw (ok, ← eq, ne-eqb (getD axis q 0) 0 n, ne-eqb (getD axis q 0) (half c - 1) (λ z. d (omega arith))) (ap Linkage e)
+
+-- ---- calls seen on the whole model
+
+module _ (m : ℕ) (links axis times marks a t : List ℕ) (r : Answer) where
+  pub on-sqs : (f : List ℕ → Sqs → Outcome) → Answers m (f marks (sqs axis times)) a t r
+      → record { tables = record { links = links; axis = a; times = t; marks = marks }; answer = r }
+      ≡ onSqs f (record { links = links; axis = axis; times = times; marks = marks })
+  on-sqs f k =
+      ap (λ (o : Outcome). record { tables = record { links = links; axis = o .left .axis; times = o .left .times; marks = marks }; answer = o .answer }) (k .is)
+
+  -- the same where T is handed on
+  pub on-signed : (z : ℤ) → SFits w64 z → (f : ℤ → List ℕ → Sqs → Outcome) → Answers m (f (toZ w64 (ofZ w64 z)) marks (sqs axis times)) a t r
+      → record { tables = record { links = links; axis = a; times = t; marks = marks }; answer = r }
+      ≡ onSqs (f z) (record { links = links; axis = axis; times = times; marks = marks })
+  on-signed z g f k = on-sqs (f z) (subst (λ (w : ℤ). Answers m (f w marks (sqs axis times)) a t r) (toZ-ofZ w64 z g) k)
+
+module _ (c : Counts) (links axis times marks a t k : List ℕ) (r : Answer) where
+  pub on-marks : (f : List ℕ → Sqs → Marked) → FinishMade c (f marks (sqs axis times)) a t k r
+      → record { tables = record { links = links; axis = a; times = t; marks = k }; answer = r }
+      ≡ onMarks f (record { links = links; axis = axis; times = times; marks = marks })
+  on-marks f w =
+      ap
+      (λ (o : Marked). record {
+        tables = record { links = links; axis = o .outcome .left .axis; times = o .outcome .left .times; marks = o .marks };
+        answer = o .outcome .answer;
+      })
+      (w .is)
+
+  pub on-sets : (f : List ℕ → Sqs → Waited) → WaitMade c (f links (sqs axis times)) k a t r
+      → record { tables = record { links = k; axis = a; times = t; marks = marks }; answer = r }
+      ≡ onSets f (record { links = links; axis = axis; times = times; marks = marks })
+  on-sets f w =
+      ap
+      (λ (o : Waited). record {
+        tables = record { links = o .links; axis = o .outcome .left .axis; times = o .outcome .left .times; marks = marks };
+        answer = o .outcome .answer;
+      })
+      (w .is)

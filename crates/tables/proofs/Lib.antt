@@ -1,4 +1,0 @@
--- laws that the code's proofs cite
-pub mod AxisCode
-pub mod Verdicts
-pub mod Filling

@@ -1,3 +1,0 @@
-// A model's lent tables: their judge, and the fresh model.
-pub mod fresh;
-pub mod judge;
