@@ -1,6 +1,5 @@
 // A request that stands in the input, from its contents to its response.
 use crate::answer::answer;
-use ring::wide;
 use calls_served::contents::model_in;
 use calls_served::contents::model_out;
 use calls_served::contents::reply_out;
@@ -9,6 +8,7 @@ use calls_served::contents::run_out;
 use calls_served::head::Head;
 use calls_served::head::Sizes;
 use calls_served::reply::Reply;
+use ring::wide;
 ghost use Prim.Native.Nat.{_+_, _≤_};
 ghost use lib.ListN.{length};
 ghost use Rattle.calls_served.specs.Contents.{modelBytes, runBytes, ModelFits, RunFits, Served};

@@ -1,11 +1,11 @@
 // Calls 40 and 42: a run of the sheet, going on from the tables of the request; and the tables of a fresh run.
+use calls_served::reply::Reply;
+use calls_served::reply::accepted;
+use calls_served::reply::refused;
 use model::verdict::Verdict;
 use run::answer::end_code;
 use run::fresh::fresh_run;
 use run::run;
-use calls_served::reply::Reply;
-use calls_served::reply::accepted;
-use calls_served::reply::refused;
 
 pub(crate) fn has(call: u32) -> bool {
     if call == 42 {

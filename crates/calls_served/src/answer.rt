@@ -1,19 +1,26 @@
-// The calls by their numbers, but for the runs. Each group of calls has a file with `has`, which numbers it takes, and `answer`.
+// The calls by their numbers, but for the runs: those of SIMSET and SIMULATION are decoded to values, and each other group has a file with
+// `has`, which numbers it takes, and `answer`.
 use crate::accum_calls;
+use crate::decode;
 use crate::fresh_call;
 use crate::head::Head;
 use crate::judge_call;
 use crate::reply::Reply;
-use crate::sequencing_calls;
-use crate::set_calls;
+use crate::reply::answered;
 use crate::sheet_call;
+use simula::query;
+use simula::sequencing_call;
+use simula::set_call;
 
 // Is there such a call here?
 pub fn has(call: u32) -> bool {
-    if set_calls::has(call) {
+    if decode::is_set_call(call) {
         return true;
     }
-    if sequencing_calls::has(call) {
+    if decode::is_sequencing_call(call) {
+        return true;
+    }
+    if decode::is_query(call) {
         return true;
     }
     if accum_calls::has(call) {
@@ -39,11 +46,18 @@ pub fn answer(
     sheet: &[u8],
 ) -> Reply {
     let call = head.call;
-    if set_calls::has(call) {
-        return set_calls::answer(head, links, axis, times, marks);
+    let c = head.counts;
+    if decode::is_set_call(call) {
+        let k = decode::set_call_of(head);
+        return answered(set_call(c, links, axis, times, marks, k));
     }
-    if sequencing_calls::has(call) {
-        return sequencing_calls::answer(head, links, axis, times, marks);
+    if decode::is_sequencing_call(call) {
+        let k = decode::sequencing_call_of(head);
+        return answered(sequencing_call(c, links, axis, times, marks, k));
+    }
+    if decode::is_query(call) {
+        let q = decode::query_of(head);
+        return answered(query(c, links, axis, times, marks, q));
     }
     if accum_calls::has(call) {
         return accum_calls::answer(head, links, axis, times, marks, accums);

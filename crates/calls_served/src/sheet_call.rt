@@ -2,8 +2,8 @@
 use crate::reply::Reply;
 use crate::reply::accepted;
 use crate::reply::refused;
-use sheet_check::check::check;
 use sheet::header::Checked;
+use sheet_check::check::check;
 
 pub(crate) fn has(call: u32) -> bool {
     call == 41

@@ -3,10 +3,10 @@ mod start;
 
 use crate::start::start;
 use model::Refusal;
-use sheet_check::check::check;
 use ring::wide;
 use run::answer::number;
 use sheet::header::Checked;
+use sheet_check::check::check;
 ghost use mathlib.Core.Path.{_≡_};
 ghost use Rattle.model.specs.Refusals.{refusalNumber};
 ghost use Rattle.host.specs.Host.{hosted};

@@ -6,10 +6,11 @@ use lib.IntN.{ℤ}
 use lib.ListN.{set}
 use Rattle.model.specs.declared.Counts.{Counts}
 use Rattle.model.specs.Counts.{isHead}
+use Rattle.model.specs.declared.call.SetCall.{SetCall}
 use Rattle.model_laws.specs.Tables.{Lists}
 use Rattle.model_laws.specs.Result.{need, done, refused, Result}
 use Rattle.model_laws.specs.Now.{time}
-use Rattle.simset_laws.specs.Plain.{SetCall, setCall}
+use Rattle.simset_laws.specs.Plain.{setCall}
 use Rattle.simulation_laws.specs.Plain as plain
 use Rattle.accum_laws.specs.declared.Updated.{Updated}
 use Rattle.accum_laws.specs.declared.Updated.the-variants.{To, Refused}

@@ -6,11 +6,11 @@ use lib.Dec.{ltb, eqb}
 use lib.IntN.{pos}
 use lib.ListN.{getD}
 use Rattle.ring_laws.specs.Lists.{if_then_else_}
+use Rattle.model.specs.declared.call.SetCall.the-variants.{Out, Follow, Precede, Into, Clear}
 use Rattle.model_laws.specs.Tables.{Lists, membersOf}
 use Rattle.model_laws.specs.Result.{done, refused, Result}
 use Rattle.model_laws.specs.Now.{time, current}
 use Rattle.simset_laws.specs.Sets.{noLinks}
-use Rattle.simset_laws.specs.Plain.{clear, into, precede, follow, out}
 use Rattle.sheet.specs.declared.records.Record.{Record}
 use Rattle.sheet.specs.Sheet.{Sheet}
 use Rattle.machine.specs.declared.End.{End}
@@ -31,11 +31,11 @@ operandOf l v = if ltb v 65536 then v else if eqb v 65536 then current l else fi
 unfoldable pub callOf : Record → ℕ → ℕ → Call
 callOf q x y =
     let op = q .operation in
-    if eqb op 1 then onList (onSet (out x))
-    else if eqb op 2 then onList (onSet (follow x y))
-    else if eqb op 3 then onList (onSet (precede x y))
-    else if eqb op 4 then onList (onSet (into x y))
-    else if eqb op 5 then onList (onSet (clear x))
+    if eqb op 1 then onList (onSet (Out x))
+    else if eqb op 2 then onList (onSet (Follow x y))
+    else if eqb op 3 then onList (onSet (Precede x y))
+    else if eqb op 4 then onList (onSet (Into x y))
+    else if eqb op 5 then onList (onSet (Clear x))
     else if eqb op 6 then onList (hold (q .t))
     else if eqb op 7 then onList passivate
     else if eqb op 8 then onList (wait y)

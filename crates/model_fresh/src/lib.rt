@@ -1,8 +1,8 @@
 // The fresh model: empty sets and one notice, main at 0.
-use model_judge::lengths_fine;
 use model::Counts;
 use model::Refusal;
 use model::verdict::Verdict;
+use model_judge::lengths_fine;
 use ring::link_before;
 use ring::start_ring;
 use ring::wide;

@@ -2,10 +2,10 @@
 use model::Counts;
 use model::Refusal;
 use model::TIME_LIMIT;
-use ring_judge::is_idle;
-use ring_judge::rings_fine;
 use model::verdict::Verdict;
 use ring::wide;
+use ring_judge::is_idle;
+use ring_judge::rings_fine;
 ghost use mathlib.Core.Path.{_≡_};
 ghost use Prim.Native.Nat.{_+_, _*_, _<_, _≤_};
 ghost use lib.ListN.{length};

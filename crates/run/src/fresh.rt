@@ -1,8 +1,8 @@
 // The public fresh run: the check of the sheet, then its tables.
-use run_fresh::fill;
-use sheet_check::check::check;
 use model::verdict::Verdict;
+use run_fresh::fill;
 use sheet::header::Checked;
+use sheet_check::check::check;
 ghost use mathlib.Core.Path.{_≡_};
 ghost use Rattle.run_laws.specs.Run.{lent};
 ghost use Rattle.run_laws.specs.Fresh.{filled};

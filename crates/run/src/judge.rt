@@ -3,9 +3,9 @@ use crate::positions::judge_positions;
 use model::Counts;
 use model::Refusal;
 use model::verdict::Verdict;
-use ring::wide;
 use model_judge::judge_tables;
 use model_judge::lengths_fine;
+use ring::wide;
 ghost use mathlib.Core.Path.{_≡_};
 ghost use Rattle.run_laws.specs.Run.{lent, runJudged};
 

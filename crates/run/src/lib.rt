@@ -5,14 +5,14 @@ mod judge;
 mod positions;
 
 use crate::judge::judge_run;
-use model::Refusal;
-use sheet_check::check::check;
 use machine::End;
+use model::Refusal;
 use model::verdict::Verdict;
 use run_laws::Ran;
+use run_turns::turns::turns;
 use sheet::header::Checked;
 use sheet::header::Header;
-use run_turns::turns::turns;
+use sheet_check::check::check;
 ghost use mathlib.Core.Path.{_≡_};
 ghost use Rattle.sheet.specs.Accepted.{checked};
 ghost use Rattle.sheet.specs.declared.header.Checked.the-variants.{Accepted};

@@ -1,10 +1,10 @@
 // The tables of a fresh run: the fresh model, the sheet's starts, zeros.
 use model::Refusal;
 use model::verdict::Verdict;
+use model_fresh::fresh;
 use ring::wide;
 use sheet::header::Header;
 use sheet::records::start_at;
-use model_fresh::fresh;
 ghost use mathlib.Core.Path.{_≡_};
 ghost use Prim.Native.Nat.{_+_, _*_, _≤_};
 ghost use lib.IntN.{pos};

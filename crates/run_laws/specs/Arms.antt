@@ -13,12 +13,14 @@ use Rattle.model.specs.declared.Counts.{Counts}
 use Rattle.model.specs.Counts.{total, isHead}
 use Rattle.model.specs.declared.answer.Answer.{Answer}
 use Rattle.model.specs.declared.answer.Answer.the-variants.{Done}
+use Rattle.model.specs.declared.call.SetCall.{SetCall}
+use Rattle.model.specs.declared.call.SetCall.the-variants.{Out, Follow, Precede, Into, Clear}
 use Rattle.model_laws.specs.Tables.{Tables, After}
 use Rattle.model_laws.specs.Now.{timeOf, half}
 use Rattle.simset_laws.specs.Procedures.{emptyOf}
 use Rattle.simset_laws.specs.Calls.{Linked, toldIf, outStep, followStep, precedeStep, intoStep, clearStep}
 use Rattle.simset_laws.specs.Promise.{Moved}
-use Rattle.simset_laws.specs.Plain.{linksAfter, clear, into, precede, follow, out, SetCall}
+use Rattle.simset_laws.specs.Plain.{linksAfter}
 use Rattle.simulation_laws.specs.Procedures.{Sqs, dueAt, activated}
 use Rattle.simulation_laws.specs.Promise.{sqs, Answers}
 use Rattle.simulation_laws.specs.StepPromise.{FinishMade, WaitMade}
@@ -94,19 +96,19 @@ module _ (c : Counts) (q : Record) (f : ℕ) (links axis times marks : List ℕ)
       Sets = record { tables = record { links = l; axis = axis; times = times; marks = marks }; words = w; effect = v } ≡ performed c q f t w
 
       pub arm-1 : q .operation ≡ 1 → Moved (total c + 1) (outStep c x links) (record { links = l; answer = r }) → Sets
-      arm-1 e m = set-by 1 e (λ z. omega arith) r v (out x) (which.call-1 c links f q e) l m ev
+      arm-1 e m = set-by 1 e (λ z. omega arith) r v (Out x) (which.call-1 c links f q e) l m ev
 
       pub arm-2 : q .operation ≡ 2 → Moved (total c + 1) (followStep c x y links) (record { links = l; answer = r }) → Sets
-      arm-2 e m = set-by 2 e (λ z. omega arith) r v (follow x y) (which.call-2 c links f q e) l m ev
+      arm-2 e m = set-by 2 e (λ z. omega arith) r v (Follow x y) (which.call-2 c links f q e) l m ev
 
       pub arm-3 : q .operation ≡ 3 → Moved (total c + 1) (precedeStep c x y links) (record { links = l; answer = r }) → Sets
-      arm-3 e m = set-by 3 e (λ z. omega arith) r v (precede x y) (which.call-3 c links f q e) l m ev
+      arm-3 e m = set-by 3 e (λ z. omega arith) r v (Precede x y) (which.call-3 c links f q e) l m ev
 
       pub arm-4 : q .operation ≡ 4 → Moved (total c + 1) (intoStep c x y links) (record { links = l; answer = r }) → Sets
-      arm-4 e m = set-by 4 e (λ z. omega arith) r v (into x y) (which.call-4 c links f q e) l m ev
+      arm-4 e m = set-by 4 e (λ z. omega arith) r v (Into x y) (which.call-4 c links f q e) l m ev
 
       pub arm-5 : q .operation ≡ 5 → Moved (total c + 1) (clearStep c x links) (record { links = l; answer = r }) → Sets
-      arm-5 e m = set-by 5 e (λ z. omega arith) r v (clear x) (which.call-5 c links f q e) l m ev
+      arm-5 e m = set-by 5 e (λ z. omega arith) r v (Clear x) (which.call-5 c links f q e) l m ev
 
     module _ (a u : List ℕ) (ev : v ≡ unlessRefused r Moves) where
       abbrev Axis : Type 0

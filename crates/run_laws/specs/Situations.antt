@@ -15,13 +15,13 @@ use Rattle.model.specs.declared.Counts.{Counts}
 use Rattle.model.specs.Refusals.{refusalNumber}
 use Rattle.model.specs.declared.answer.Answer.{Answer}
 use Rattle.model.specs.declared.answer.Answer.the-variants.{Done, Linkage, Number, Truth, Refused}
+use Rattle.model.specs.declared.call.SetCall.the-variants.{Follow, Into}
 use Rattle.model_laws.specs.Notices.{Notice}
 use Rattle.model_laws.specs.Tables.{Tables, After}
 use Rattle.model_laws.specs.Fresh.{freshHeads, freshAxis, freshTables}
 use Rattle.model_laws.specs.Result.{done, refused, Result}
 use Rattle.simset_laws.specs.Procedures.{followOn, followed, precedeOn, preceded}
 use Rattle.simset_laws.specs.Calls.{followStep, intoStep}
-use Rattle.simset_laws.specs.Plain.{into, follow}
 use Rattle.simulation_laws.specs.Plain.{dueFor, placed, noEffect, timed}
 use Rattle.simulation_laws.specs.Plain as plain
 use Rattle.simulation_laws.specs.Procedures.{seekFrom, found, dropOn, putOn, heldAt, held, passivated, cancelled, vain, dueAt, placeFor, putByClause, activated}
@@ -139,7 +139,7 @@ situations =
     ∷ record { calls = act 2 A (pos 5) ∷ beside 5 A A ∷ []; want = axis (at M 0 ∷ at A 5 ∷ []) }  --  9
     ∷ record { calls = act 2 A (pos 5) ∷ beside 6 M B ∷ []; want = axis (at A 5 ∷ []) }  -- 10
     ∷ record { calls = beside 6 M B ∷ []; want = number 4 }  -- 11
-    ∷ record { calls = onSet (into A S) ∷ onSet (follow A A) ∷ []; want = outside A }  -- 12
+    ∷ record { calls = onSet (Into A S) ∷ onSet (Follow A A) ∷ []; want = outside A }  -- 12
     ∷ []
 
 unfoldable pub met : Situation → Bool

@@ -8,7 +8,7 @@ use lib.Dec.{eqb}
 use borrow.Author.Tests.{eq-eqb, ne-eqb, lt-ltb}
 use Rattle.ring_laws.specs.Lists.{decide}
 use Rattle.model.specs.declared.Counts.{Counts}
-use Rattle.simset_laws.specs.Plain.{clear, into, precede, follow, out}
+use Rattle.model.specs.declared.call.SetCall.the-variants.{Out, Follow, Precede, Into, Clear}
 use Rattle.sheet.specs.declared.records.Record.{Record}
 use Rattle.machine.specs.Calls.{onSet, hold, passivate, wait, cancel, activate, ifEmpty, finish, Call, onList, accum}
 use Rattle.machine.specs.Steps.{callOf}
@@ -33,23 +33,23 @@ module _ (c : Counts) (links : List ℕ) (f : ℕ) (q : Record) where
   unfolding callDue resolved
   call-0 e = rw (eq-eqb (q .operation) 0 e)
 
-  pub call-1 : q .operation ≡ 1 → due ≡ onList (onSet (out x))
+  pub call-1 : q .operation ≡ 1 → due ≡ onList (onSet (Out x))
   unfolding callOf
   call-1 e = some 1 e (λ z. omega arith) ∙ (rw e)
 
-  pub call-2 : q .operation ≡ 2 → due ≡ onList (onSet (follow x y))
+  pub call-2 : q .operation ≡ 2 → due ≡ onList (onSet (Follow x y))
   unfolding callOf
   call-2 e = some 2 e (λ z. omega arith) ∙ (rw e)
 
-  pub call-3 : q .operation ≡ 3 → due ≡ onList (onSet (precede x y))
+  pub call-3 : q .operation ≡ 3 → due ≡ onList (onSet (Precede x y))
   unfolding callOf
   call-3 e = some 3 e (λ z. omega arith) ∙ (rw e)
 
-  pub call-4 : q .operation ≡ 4 → due ≡ onList (onSet (into x y))
+  pub call-4 : q .operation ≡ 4 → due ≡ onList (onSet (Into x y))
   unfolding callOf
   call-4 e = some 4 e (λ z. omega arith) ∙ (rw e)
 
-  pub call-5 : q .operation ≡ 5 → due ≡ onList (onSet (clear x))
+  pub call-5 : q .operation ≡ 5 → due ≡ onList (onSet (Clear x))
   unfolding callOf
   call-5 e = some 5 e (λ z. omega arith) ∙ (rw e)
 

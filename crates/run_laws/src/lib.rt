@@ -1,7 +1,7 @@
 // Runs of model sheets: what a run call does to its tables and trace, that this is the plain machine's, and demand 3, in specs/. The code
 // is in `run_step`, `run_turns`, `run_fresh` and `run`.
-use model::Refusal;
 use machine::End;
+use model::Refusal;
 
 // What a run call answers: how many lines it wrote, and how it ended.
 pub struct Ran {

@@ -1,6 +1,7 @@
 // The calls of a record whose bytes begin at i, one for each operation that reads operands: an operand is resolved where its call uses it.
 use crate::reading::x_of;
 use crate::reading::y_of;
+use accum_update::flat::update_in;
 use model::Counts;
 use model::answer::Answer;
 use sheet::records::clause_at;
@@ -17,7 +18,6 @@ use simulation::steps::activate;
 use simulation::steps::cancel;
 use simulation::steps::hold_now;
 use simulation::steps::wait;
-use accum_update::flat::update_in;
 ghost use mathlib.Core.Path.{_≡_};
 ghost use mathlib.Core.Bool.{false};
 ghost use Prim.Native.Nat.{_+_, _*_, _≤_};

@@ -1,8 +1,8 @@
 // Turn after turn on judged tables, until main has finished, the trace is full or a step is refused: stretches of turns, and between them
 // a turn whose call is made apart.
 use crate::stretch::stretch;
-use model::Counts;
 use machine::End;
+use model::Counts;
 use model::verdict::Verdict;
 use run_laws::Pause;
 use run_laws::Ran;

@@ -9,11 +9,13 @@ use Rattle.model.specs.declared.Counts.{Counts}
 use Rattle.model.specs.declared.Refusal.{Refusal}
 use Rattle.model.specs.Counts.{total, isHead, isLink, isLinkage}
 use Rattle.model.specs.declared.answer.Answer.the-variants.{Refused}
+use Rattle.model.specs.declared.call.SetCall.{SetCall}
+use Rattle.model.specs.declared.call.SetCall.the-variants.{Out, Follow, Precede, Into, Clear}
 use Rattle.model_laws.specs.Called.{called}
 use Rattle.model_laws.specs.Result.{KeepsRefused, called-kept}
 use Rattle.simset_laws.specs.Procedures.{followed, preceded, cleared}
 use Rattle.simset_laws.specs.Calls.{linkedIf, orNone, onLinks, outStep, followStep, precedeStep, intoStep, clearStep}
-use Rattle.simset_laws.specs.Plain.{SetCall, out, follow, precede, into, clear, linksAfter}
+use Rattle.simset_laws.specs.Plain.{linksAfter}
 
 -- by one test
 if-kept : (b : Bool) (t u : List ℕ) (r : Refusal) → linkedIf b t u .answer ≡ Refused r → linkedIf b t u .links ≡ t
@@ -22,30 +24,16 @@ if-kept false t u r e = refl
 
 links-kept : (c : Counts) (k : SetCall) (t : List ℕ) (r : Refusal) → linksAfter c k t .answer ≡ Refused r → linksAfter c k t .links ≡ t
 unfolding outStep followStep precedeStep intoStep clearStep
-links-kept c (out x) t r e = if-kept (isLink c x) t (unlinked (total c + 1) x t) r e
-links-kept c (follow x y) t r e = if-kept (isLink c x && orNone (isLinkage c y) y) t (followed (total c + 1) x y t) r e
-links-kept c (precede x y) t r e = if-kept (isLink c x && orNone (isLinkage c y) y) t (preceded (total c + 1) x y t) r e
-links-kept c (into x y) t r e = if-kept (isLink c x && orNone (isHead c y) y) t (preceded (total c + 1) x y t) r e
-links-kept c (clear x) t r e = if-kept (isHead c x) t (cleared (total c + 1) x t) r e
+links-kept c (Out x) t r e = if-kept (isLink c x) t (unlinked (total c + 1) x t) r e
+links-kept c (Follow x y) t r e = if-kept (isLink c x && orNone (isLinkage c y) y) t (followed (total c + 1) x y t) r e
+links-kept c (Precede x y) t r e = if-kept (isLink c x && orNone (isLinkage c y) y) t (preceded (total c + 1) x y t) r e
+links-kept c (Into x y) t r e = if-kept (isLink c x && orNone (isHead c y) y) t (preceded (total c + 1) x y t) r e
+links-kept c (Clear x) t r e = if-kept (isHead c x) t (cleared (total c + 1) x t) r e
 
-pub set-kept : (c : Counts) (k : SetCall) → KeepsRefused (onLinks (linksAfter c k))
-set-kept c k t r e = ap (λ (l : List ℕ). record { links = l; axis = t .axis; times = t .times; marks = t .marks })
+steps-kept : (c : Counts) (k : SetCall) → KeepsRefused (onLinks (linksAfter c k))
+steps-kept c k t r e = ap (λ (l : List ℕ). record { links = l; axis = t .axis; times = t .times; marks = t .marks })
     (links-kept c k (t .links) r e)
 
--- ---- the public calls
-
-module _ (c : Counts) (x y : ℕ) where
-  pub out-kept : KeepsRefused (called c (onLinks (outStep c x)))
-  out-kept = called-kept c _ (set-kept c (out x))
-
-  pub follow-kept : KeepsRefused (called c (onLinks (followStep c x y)))
-  follow-kept = called-kept c _ (set-kept c (follow x y))
-
-  pub precede-kept : KeepsRefused (called c (onLinks (precedeStep c x y)))
-  precede-kept = called-kept c _ (set-kept c (precede x y))
-
-  pub into-kept : KeepsRefused (called c (onLinks (intoStep c x y)))
-  into-kept = called-kept c _ (set-kept c (into x y))
-
-  pub clear-kept : KeepsRefused (called c (onLinks (clearStep c x)))
-  clear-kept = called-kept c _ (set-kept c (clear x))
+-- the public calls
+pub set-kept : (c : Counts) (k : SetCall) → KeepsRefused (called c (onLinks (linksAfter c k)))
+set-kept c k = called-kept c (onLinks (linksAfter c k)) (steps-kept c k)

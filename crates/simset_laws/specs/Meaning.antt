@@ -16,6 +16,8 @@ use Rattle.model.specs.declared.answer.Answer.{Answer}
 use Rattle.model.specs.declared.answer.Answer.the-variants.{Linkage, Number, Truth}
 use Rattle.model.specs.declared.verdict.Verdict.{Verdict}
 use Rattle.model.specs.declared.verdict.Verdict.the-variants.{Fine}
+use Rattle.model.specs.declared.call.SetCall.{SetCall}
+use Rattle.model.specs.declared.call.SetCall.the-variants.{Out, Follow, Precede, Into, Clear}
 use Rattle.model_laws.specs.Tables.{Tables, Lists, After, Sized, setHead, membersOf, SpellsSets, Spells}
 use Rattle.model_laws.specs.Judge.{judged}
 use Rattle.model_laws.specs.Verdict.{judged-says}
@@ -24,7 +26,7 @@ use Rattle.model_laws.specs.Result.{done, need, Follows}
 use Rattle.simset_laws.specs.Sets.{sucSets, predSets, noLinks}
 use Rattle.simset_laws.specs.Calls.{linkedIf, toldIf, orNone, outStep, followStep, precedeStep, intoStep, clearStep, firstTold, lastTold, sucTold, predTold, emptyTold, cardinalTold, onLinks, ofLinks}
 use Rattle.simset_laws.specs.Procedures.{sucOf, predOf}
-use Rattle.simset_laws.specs.Plain.{SetCall, out, follow, precede, into, clear, withSets, setCall, linksAfter}
+use Rattle.simset_laws.specs.Plain.{withSets, setCall, linksAfter}
 use Rattle.simset_laws.specs.Promise.{link-in, linkage-in, head-in, none-or}
 use Rattle.simset_laws.specs.Laws.{sets-out, sets-followed, sets-preceded}
 use Rattle.simset_laws.specs.ClearLaw.{sets-cleared}
@@ -90,41 +92,26 @@ module _ (c : Counts) (l : Lists) (t : Tables) (z : Sized c t) (s : Spells c l t
 
   set-follows : (k : SetCall) → Follows c t (setCall c k l) (onLinks (linksAfter c k) t)
   unfolding outStep followStep precedeStep intoStep clearStep
-  set-follows (out x) = by-kinds (isLink c x) _ _ (λ e. sets-out m (c .heads) (l .sets) (t .links) (s .links) x (link-of c x e))
-  set-follows (follow x y) =
+  set-follows (Out x) = by-kinds (isLink c x) _ _ (λ e. sets-out m (c .heads) (l .sets) (t .links) (s .links) x (link-of c x e))
+  set-follows (Follow x y) =
       by-kinds (isLink c x && orNone (isLinkage c y) y) _ _ (λ e.
       let p = both (isLink c x) (orNone (isLinkage c y) y) e in
       sets-followed m (c .heads) (l .sets) (t .links) (s .links) heads-in x (link-of c x (p .0)) y (party-in y (p .1)))
-  set-follows (precede x y) =
+  set-follows (Precede x y) =
       by-kinds (isLink c x && orNone (isLinkage c y) y) _ _ (λ e.
       let p = both (isLink c x) (orNone (isLinkage c y) y) e in
       sets-preceded m (c .heads) (l .sets) (t .links) (s .links) heads-in x (link-of c x (p .0)) y (party-in y (p .1)))
-  set-follows (into x y) =
+  set-follows (Into x y) =
       by-kinds (isLink c x && orNone (isHead c y) y) _ _ (λ e.
       let p = both (isLink c x) (orNone (isHead c y) y) e in
       sets-preceded m (c .heads) (l .sets) (t .links) (s .links) heads-in x (link-of c x (p .0)) y
       (none-or (isHead c y) y (total c) (head-in c y) (p .1)))
-  set-follows (clear x) = by-kinds (isHead c x) _ _ (λ e. sets-cleared m (c .heads) (l .sets) (t .links) (s .links) heads-in x
+  set-follows (Clear x) = by-kinds (isHead c x) _ _ (λ e. sets-cleared m (c .heads) (l .sets) (t .links) (s .links) heads-in x
       (head-of c x e))
 
   -- the public calls are the steps on judged tables
   pub set-means : (k : SetCall) → Follows c t (setCall c k l) (called c (onLinks (linksAfter c k)) t)
   set-means k = rw (called-is (onLinks (linksAfter c k))) (set-follows k)
-
-  pub out-means : (x : ℕ) → Follows c t (setCall c (out x) l) (called c (onLinks (outStep c x)) t)
-  out-means x = set-means (out x)
-
-  pub follow-means : (x y : ℕ) → Follows c t (setCall c (follow x y) l) (called c (onLinks (followStep c x y)) t)
-  follow-means x y = set-means (follow x y)
-
-  pub precede-means : (x y : ℕ) → Follows c t (setCall c (precede x y) l) (called c (onLinks (precedeStep c x y)) t)
-  precede-means x y = set-means (precede x y)
-
-  pub into-means : (x y : ℕ) → Follows c t (setCall c (into x y) l) (called c (onLinks (intoStep c x y)) t)
-  into-means x y = set-means (into x y)
-
-  pub clear-means : (x : ℕ) → Follows c t (setCall c (clear x) l) (called c (onLinks (clearStep c x)) t)
-  clear-means x = set-means (clear x)
 
   -- ---- the queries
 

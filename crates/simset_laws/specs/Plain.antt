@@ -4,34 +4,29 @@ use mathlib.Core.Bool.{Bool, _&&_}
 use mathlib.Core.List.{List}
 use Rattle.model.specs.declared.Counts.{Counts}
 use Rattle.model.specs.Counts.{isHead, isLink, isLinkage}
+use Rattle.model.specs.declared.call.SetCall.{SetCall}
+use Rattle.model.specs.declared.call.SetCall.the-variants.{Out, Follow, Precede, Into, Clear}
 use Rattle.model_laws.specs.Tables.{Lists}
 use Rattle.model_laws.specs.Result.{Result, done, need}
 use Rattle.simset_laws.specs.Sets.{outSets, followSets, precedeSets, clearSets}
 use Rattle.simset_laws.specs.Calls.{Linked, orNone, outStep, followStep, precedeStep, intoStep, clearStep}
 
-pub data SetCall : Type 0 where
-  out : ℕ → SetCall
-  follow : ℕ → ℕ → SetCall
-  precede : ℕ → ℕ → SetCall
-  into : ℕ → ℕ → SetCall
-  clear : ℕ → SetCall
-
 -- refusal 3 for "none where out, follow, precede, into or clear is called on it" and for a wrong kind; "None as the second party
 -- means out alone"
 abbrev pub kindsFine : Counts → SetCall → Bool
-kindsFine c (out x) = isLink c x
-kindsFine c (follow x y) = isLink c x && orNone (isLinkage c y) y
-kindsFine c (precede x y) = isLink c x && orNone (isLinkage c y) y
-kindsFine c (into x y) = isLink c x && orNone (isHead c y) y
-kindsFine c (clear x) = isHead c x
+kindsFine c (Out x) = isLink c x
+kindsFine c (Follow x y) = isLink c x && orNone (isLinkage c y) y
+kindsFine c (Precede x y) = isLink c x && orNone (isLinkage c y) y
+kindsFine c (Into x y) = isLink c x && orNone (isHead c y) y
+kindsFine c (Clear x) = isHead c x
 
 -- "Into is precede"
 abbrev pub setsAfter : SetCall → List (List ℕ) → List (List ℕ)
-setsAfter (out x) sets = outSets x sets
-setsAfter (follow x y) sets = followSets x y sets
-setsAfter (precede x y) sets = precedeSets x y sets
-setsAfter (into x y) sets = precedeSets x y sets
-setsAfter (clear x) sets = clearSets x sets
+setsAfter (Out x) sets = outSets x sets
+setsAfter (Follow x y) sets = followSets x y sets
+setsAfter (Precede x y) sets = precedeSets x y sets
+setsAfter (Into x y) sets = precedeSets x y sets
+setsAfter (Clear x) sets = clearSets x sets
 
 abbrev pub withSets : Lists → List (List ℕ) → Lists
 withSets l k = record { sets = k; notices = l .notices; terminated = l .terminated }
@@ -41,8 +36,8 @@ setCall c k l = need (kindsFine c k) (done (withSets l (setsAfter k (l .sets))))
 
 -- the same call on a table of links
 abbrev pub linksAfter : Counts → SetCall → List ℕ → Linked
-linksAfter c (out x) t = outStep c x t
-linksAfter c (follow x y) t = followStep c x y t
-linksAfter c (precede x y) t = precedeStep c x y t
-linksAfter c (into x y) t = intoStep c x y t
-linksAfter c (clear x) t = clearStep c x t
+linksAfter c (Out x) t = outStep c x t
+linksAfter c (Follow x y) t = followStep c x y t
+linksAfter c (Precede x y) t = precedeStep c x y t
+linksAfter c (Into x y) t = intoStep c x y t
+linksAfter c (Clear x) t = clearStep c x t

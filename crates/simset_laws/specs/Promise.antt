@@ -13,7 +13,9 @@ use Rattle.model.specs.declared.Refusal.the-variants.{Operand}
 use Rattle.model.specs.Counts.{total, isHead, isLink, isLinkage, both}
 use Rattle.model.specs.declared.answer.Answer.{Answer}
 use Rattle.model.specs.declared.answer.Answer.the-variants.{Done, Refused}
+use Rattle.model.specs.declared.call.SetCall.{SetCall}
 use Rattle.simset_laws.specs.Calls.{Linked, linkedIf, toldIf, orNone, onLinks}
+use Rattle.simset_laws.specs.Plain.{linksAfter}
 
 -- the links and the answer are as wanted, and the links are sound
 pub record Moved (m : ℕ) (want got : Linked) : Type 0 where
@@ -74,6 +76,10 @@ told-not b a e = rw e
 
 pub told : (b : Bool) (a r : Answer) → b ≡ true → r ≡ a → r ≡ toldIf b a
 told b a r e f = rw e f
+
+-- a call that turned out to be this one
+pub moved-as : (m : ℕ) (c : Counts) (k j : SetCall) (t : List ℕ) (got : Linked) → k ≡ j → Moved m (linksAfter c j t) got → Moved m (linksAfter c k t) got
+moved-as m c k j t got e w = rw e w
 
 -- a call that was made on the links, seen on the whole model
 pub on-links : (m : ℕ) (links axis times marks l : List ℕ) (a : Answer) (f : List ℕ → Linked) → Moved m (f links) (record { links = l; answer = a })

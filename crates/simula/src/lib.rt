@@ -1,5 +1,75 @@
-// The public calls and queries of SIMSET and SIMULATION: each is lent the whole model, judges it, and makes the step or reads the answer.
-pub mod sequencing_calls;
-pub mod sequencing_queries;
-pub mod set_calls;
-pub mod set_queries;
+// The public calls and queries of SIMSET and SIMULATION: each is lent the whole model and a call as a value, judges the model, and makes the
+// call or tells the answer. Refusals come in the order 1, 2, 3, then the rest; a refused call changes no word.
+mod by_case;
+
+use crate::by_case::sequencing_step;
+use crate::by_case::set_step;
+use crate::by_case::tell;
+use model::Counts;
+use model::answer::Answer;
+use model::call::Query;
+use model::call::SequencingCall;
+use model::call::SetCall;
+use model::verdict::Verdict;
+use model_judge::judge_tables;
+ghost use mathlib.Core.Path.{_≡_};
+ghost use Rattle.model_laws.specs.Called.{called, asked};
+ghost use Rattle.simset_laws.specs.Calls.{onLinks};
+ghost use Rattle.simset_laws.specs.Plain.{linksAfter};
+ghost use Rattle.simulation_laws.specs.PublicCalls.{sequencingAfter, queryTold};
+
+// Out, follow, precede, into and clear.
+pub fn set_call(
+    c: Counts,
+    links: &mut [u32],
+    axis: &[u32],
+    times: &[u64],
+    marks: &[u8],
+    call: SetCall,
+) -> Answer
+    ensures { λ r. ⌜ record { tables = record { links = now (links .exit); axis = now (axis .entry); times = now (times .entry); marks = now (marks .entry) }; answer = r }
+        ≡ called c (onLinks (linksAfter c call)) (record { links = now (links .entry); axis = now (axis .entry); times = now (times .entry); marks = now (marks .entry) }) ⌝ }
+{
+    let v = judge_tables(c, links, axis, times, marks);
+    match v {
+        Verdict::Refused(r) => Answer::Refused(r),
+        Verdict::Fine => set_step(c, links, call),
+    }
+}
+
+// Hold, passivate, wait, cancel, activate, reactivate and finish.
+pub fn sequencing_call(
+    c: Counts,
+    links: &mut [u32],
+    axis: &mut [u32],
+    times: &mut [u64],
+    marks: &mut [u8],
+    call: SequencingCall,
+) -> Answer
+    ensures { λ r. ⌜ record { tables = record { links = now (links .exit); axis = now (axis .exit); times = now (times .exit); marks = now (marks .exit) }; answer = r }
+        ≡ called c (sequencingAfter c call) (record { links = now (links .entry); axis = now (axis .entry); times = now (times .entry); marks = now (marks .entry) }) ⌝ }
+{
+    let v = judge_tables(c, links, axis, times, marks);
+    match v {
+        Verdict::Refused(r) => Answer::Refused(r),
+        Verdict::Fine => sequencing_step(c, links, axis, times, marks, call),
+    }
+}
+
+// What first, last, suc, pred, empty and cardinal tell of the sets, and current, time, idle, terminated, evtime and nextev of the axis.
+pub fn query(
+    c: Counts,
+    links: &[u32],
+    axis: &[u32],
+    times: &[u64],
+    marks: &[u8],
+    query: Query,
+) -> Answer
+    ensures { λ r. ⌜ r ≡ asked c (queryTold c query) (record { links = now (links .entry); axis = now (axis .entry); times = now (times .entry); marks = now (marks .entry) }) ⌝ }
+{
+    let v = judge_tables(c, links, axis, times, marks);
+    match v {
+        Verdict::Refused(r) => Answer::Refused(r),
+        Verdict::Fine => tell(c, links, axis, times, marks, query),
+    }
+}

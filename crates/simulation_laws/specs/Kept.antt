@@ -109,23 +109,3 @@ module _ (c : Counts) where
       test (orNone (isHead c y) y)
       (λ q. rw q (test (lone (half c) (sqsOf t)) (λ h. rw h (λ e. refl)) (λ h. rw h (λ e. let z : false ≡ true = cc in clash z))))
       (λ q. rw q (λ e. refl))
-
-  -- ---- the public calls
-
-  pub hold-kept : (z : ℤ) → KeepsRefused (called c (onSqs (λ k a. holdStep c z a)))
-  hold-kept z = called-kept c _ (hold-steps z)
-
-  pub passivate-kept : KeepsRefused (called c (onSqs (λ k a. passivateStep c a)))
-  passivate-kept = called-kept c _ passivate-steps
-
-  pub cancel-kept : (x : ℕ) → KeepsRefused (called c (onSqs (λ k a. cancelStep c x a)))
-  cancel-kept x = called-kept c _ (cancel-steps x)
-
-  pub timed-kept : (again : Bool) (k x y : ℕ) (z : ℤ) → KeepsRefused (called c (onSqs (λ m a. timedStep c again k x y z m a)))
-  timed-kept again k x y z = called-kept c _ (timed-steps again k x y z)
-
-  pub finish-kept : KeepsRefused (called c (onMarks (λ k a. finishStep c k a)))
-  finish-kept = called-kept c _ finish-steps
-
-  pub wait-kept : (y : ℕ) → KeepsRefused (called c (onSets (λ k a. waitStep c y k a)))
-  wait-kept y = called-kept c _ (wait-steps y)

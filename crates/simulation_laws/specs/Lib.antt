@@ -30,5 +30,7 @@ pub mod Meaning
 pub mod ActivateLaws
 pub mod PublishedCalls
 pub mod QueryMeaning
+pub mod PublicCalls
+pub mod PublicLaws
 pub mod Ties
 pub mod Forward
