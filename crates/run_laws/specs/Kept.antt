@@ -17,7 +17,7 @@ use Rattle.model.specs.declared.verdict.Verdict.the-variants.{Fine, Refused as 
 use Rattle.model_laws.specs.Tables.{Tables}
 use Rattle.model_laws.specs.Now.{half, firstOf, timeOf}
 use Rattle.model_laws.specs.Result.{KeepsRefused}
-use Rattle.simset_laws.specs.Kept.{set-kept}
+use Rattle.simset_laws.specs.Kept.{set-steps}
 use Rattle.simulation_laws.specs.Kept.{hold-steps, passivate-steps, cancel-steps, timed-steps, finish-steps, wait-steps}
 use Rattle.accum_laws.specs.declared.Updated.{Updated}
 use Rattle.accum_laws.specs.declared.Updated.the-variants.{To, Refused as NotUpdated}
@@ -36,7 +36,7 @@ use Rattle.run_laws.specs.Run.{RunTables, runJudged, callDue, Turned, On
 
 lists-kept : (c : Counts) (k : ListCall) → KeepsRefused (tablesAfter c k)
 unfolding tablesAfter
-lists-kept c (onSet k) t r e = set-kept c k t r e
+lists-kept c (onSet k) t r e = set-steps c k t r e
 lists-kept c (hold z) t r e = hold-steps c z t r e
 lists-kept c passivate t r e = passivate-steps c t r e
 lists-kept c (wait y) t r e = wait-steps c y t r e

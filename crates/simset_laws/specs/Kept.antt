@@ -30,10 +30,10 @@ links-kept c (Precede x y) t r e = if-kept (isLink c x && orNone (isLinkage c y)
 links-kept c (Into x y) t r e = if-kept (isLink c x && orNone (isHead c y) y) t (preceded (total c + 1) x y t) r e
 links-kept c (Clear x) t r e = if-kept (isHead c x) t (cleared (total c + 1) x t) r e
 
-steps-kept : (c : Counts) (k : SetCall) → KeepsRefused (onLinks (linksAfter c k))
-steps-kept c k t r e = ap (λ (l : List ℕ). record { links = l; axis = t .axis; times = t .times; marks = t .marks })
+pub set-steps : (c : Counts) (k : SetCall) → KeepsRefused (onLinks (linksAfter c k))
+set-steps c k t r e = ap (λ (l : List ℕ). record { links = l; axis = t .axis; times = t .times; marks = t .marks })
     (links-kept c k (t .links) r e)
 
 -- the public calls
 pub set-kept : (c : Counts) (k : SetCall) → KeepsRefused (called c (onLinks (linksAfter c k)))
-set-kept c k = called-kept c (onLinks (linksAfter c k)) (steps-kept c k)
+set-kept c k = called-kept c (onLinks (linksAfter c k)) (set-steps c k)
