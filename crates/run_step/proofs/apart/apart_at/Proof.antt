@@ -8,41 +8,81 @@ use native.Mathlib.Omega.{arith}
 use Rattle.run_step.proofs.apart.apart_at.Statement.{statement}
 use Rattle.run_step.proofs.apart.apart_at.Tie as tie
 
+-- The places that the answers look back to: `search` finds each by its type.
+abbrev start : tie.Start → tie.Start
+start x = x
+
+abbrev after-operation-at : tie.After-operation-at → tie.After-operation-at
+after-operation-at x = x
+
+abbrev at-match-keys1 : tie.At-match-keys1 → tie.At-match-keys1
+at-match-keys1 x = x
+
+abbrev after-follow-of : tie.After-follow-of → tie.After-follow-of
+after-follow-of x = x
+
+abbrev at-match-keys2 : tie.At-match-keys2 → tie.At-match-keys2
+at-match-keys2 x = x
+
+abbrev after-precede-of : tie.After-precede-of → tie.After-precede-of
+after-precede-of x = x
+
+abbrev at-match-keys3 : tie.At-match-keys3 → tie.At-match-keys3
+at-match-keys3 x = x
+
+abbrev after-clear-of : tie.After-clear-of → tie.After-clear-of
+after-clear-of x = x
+
+abbrev at-match-keys4 : tie.At-match-keys4 → tie.At-match-keys4
+at-match-keys4 x = x
+
+abbrev after-passivate : tie.After-passivate → tie.After-passivate
+after-passivate x = x
+
+abbrev at-match-keys5 : tie.At-match-keys5 → tie.At-match-keys5
+at-match-keys5 x = x
+
+abbrev after-cancel-of : tie.After-cancel-of → tie.After-cancel-of
+after-cancel-of x = x
+
+abbrev at-match-rest : tie.At-match-rest → tie.At-match-rest
+at-match-rest x = x
+
 operation-at-requires : tie.Need-operation-at-requires
-operation-at-requires c κs = c .before .before .before .before .before .pre .0 .inside
+operation-at-requires c κs = start (search) .pre .0 .inside
 
 follow-of-requires : tie.Need-follow-of-requires
-follow-of-requires c κs = (x-readable _ _ _ _ _ (c .before .before .before .before .before .before .before .before .pre .0) _ (c .before .before .operation-at .ensures) (λ z. omega (arith, c .before .match .keys1)), y-readable _ _ _ _ _ (c .before .before .before .before .before .before .before .before .pre .0) _ (c .before .before .operation-at .ensures) (λ z. omega (arith, c .before .match .keys1)))
+follow-of-requires c κs = (x-readable _ _ _ _ _ (start (search) .pre .0) _ (c .before .before .operation-at .ensures) (λ z. omega (arith, c .before .match .keys1)), y-readable _ _ _ _ _ (start (search) .pre .0) _ (c .before .before .operation-at .ensures) (λ z. omega (arith, c .before .match .keys1)))
 
 unless-refused-requires : tie.Need-unless-refused-requires
 unless-refused-requires c κs = search needs
 
 precede-of-requires : tie.Need-precede-of-requires
-precede-of-requires c κs = (x-readable _ _ _ _ _ (c .before .before .before .before .before .before .before .before .pre .0) _ (c .before .before .operation-at .ensures) (λ z. omega (arith, c .before .match .keys2)), y-readable _ _ _ _ _ (c .before .before .before .before .before .before .before .before .pre .0) _ (c .before .before .operation-at .ensures) (λ z. omega (arith, c .before .match .keys2)))
+precede-of-requires c κs = (x-readable _ _ _ _ _ (start (search) .pre .0) _ (c .before .before .operation-at .ensures) (λ z. omega (arith, c .before .match .keys2)), y-readable _ _ _ _ _ (start (search) .pre .0) _ (c .before .before .operation-at .ensures) (λ z. omega (arith, c .before .match .keys2)))
 
 unless-refused-requires-2 : tie.Need-unless-refused-requires-2
 unless-refused-requires-2 c κs = search needs
 
 clear-of-requires : tie.Need-clear-of-requires
-clear-of-requires c κs = x-readable _ _ _ _ _ (c .before .before .before .before .before .before .before .before .pre .0) _ (c .before .before .operation-at .ensures) (λ z. omega (arith, c .before .match .keys3))
+clear-of-requires c κs = x-readable _ _ _ _ _ (start (search) .pre .0) _ (c .before .before .operation-at .ensures) (λ z. omega (arith, c .before .match .keys3))
 
 unless-refused-requires-3 : tie.Need-unless-refused-requires-3
 unless-refused-requires-3 c κs = search needs
 
 passivate-requires : tie.Need-passivate-requires
-passivate-requires c κs = takeable _ _ _ _ _ (c .before .before .before .before .before .before .before .before .before .pre .0)
+passivate-requires c κs = takeable _ _ _ _ _ (start (search) .pre .0)
 
 unless-refused-requires-4 : tie.Need-unless-refused-requires-4
 unless-refused-requires-4 c κs = search needs
 
 cancel-of-requires : tie.Need-cancel-of-requires
-cancel-of-requires c κs = (x-readable _ _ _ _ _ (c .before .before .before .before .before .before .before .before .before .before .pre .0) _ (c .before .before .before .before .operation-at .ensures) (λ z. omega (arith, c .before .before .before .match .keys5)), judged _ _ _ _ _ (c .before .before .before .before .before .before .before .before .before .before .pre .0))
+cancel-of-requires c κs = (x-readable _ _ _ _ _ (start (search) .pre .0) _ (after-operation-at (search) .operation-at .ensures) (λ z. omega (arith, at-match-keys5 (search) .match .keys5)), judged _ _ _ _ _ (start (search) .pre .0))
 
 unless-refused-requires-5 : tie.Need-unless-refused-requires-5
 unless-refused-requires-5 c κs = search needs
 
 timed-of-requires : tie.Need-timed-of-requires
-timed-of-requires c κs = (x-readable _ _ _ _ _ (c .before .before .before .before .before .before .before .before .before .before .pre .0) _ (c .before .before .before .before .operation-at .ensures) (λ z. omega (arith, z, left-apart (recordFrom (c .before .before .before .before .before .before .before .before .before .before .args .sheet .now) (c .before .before .before .before .before .before .before .before .before .before .args .i)) _ (c .before .before .before .before .operation-at .ensures) (c .before .before .before .before .before .before .before .before .before .before .pre .1) (some _ _ _ _ _ (c .before .before .before .before .before .before .before .before .before .before .pre .0) _ (c .before .before .before .before .operation-at .ensures)) (most _ _ _ _ _ (c .before .before .before .before .before .before .before .before .before .before .pre .0) _ (c .before .before .before .before .operation-at .ensures)) (c .before .before .before .match .rest .0 .0 .0 .0 .1) (c .before .before .before .match .rest .0 .0 .0 .1) (c .before .before .before .match .rest .0 .0 .1) (c .before .before .before .match .rest .0 .1) (c .before .before .before .match .rest .1) .1)), (y-readable _ _ _ _ _ (c .before .before .before .before .before .before .before .before .before .before .pre .0) _ (c .before .before .before .before .operation-at .ensures) (λ z. omega (arith, z, left-apart (recordFrom (c .before .before .before .before .before .before .before .before .before .before .args .sheet .now) (c .before .before .before .before .before .before .before .before .before .before .args .i)) _ (c .before .before .before .before .operation-at .ensures) (c .before .before .before .before .before .before .before .before .before .before .pre .1) (some _ _ _ _ _ (c .before .before .before .before .before .before .before .before .before .before .pre .0) _ (c .before .before .before .before .operation-at .ensures)) (most _ _ _ _ _ (c .before .before .before .before .before .before .before .before .before .before .pre .0) _ (c .before .before .before .before .operation-at .ensures)) (c .before .before .before .match .rest .0 .0 .0 .0 .1) (c .before .before .before .match .rest .0 .0 .0 .1) (c .before .before .before .match .rest .0 .0 .1) (c .before .before .before .match .rest .0 .1) (c .before .before .before .match .rest .1) .1)), judged _ _ _ _ _ (c .before .before .before .before .before .before .before .before .before .before .pre .0)))
+timed-of-requires c κs = (x-readable _ _ _ _ _ (start (search) .pre .0) _ (after-operation-at (search) .operation-at .ensures) (λ z. omega (arith, z, left-apart (recordFrom (start (search) .args .sheet .now) (start (search) .args .i)) _ (after-operation-at (search) .operation-at .ensures) (start (search) .pre .1) (some _ _ _ _ _ (start (search) .pre .0) _ (after-operation-at (search) .operation-at .ensures)) (most _ _ _ _ _ (start (search) .pre .0) _ (after-operation-at (search) .operation-at .ensures)) (at-match-rest (search) .match .rest .0 .0 .0 .0 .1) (at-match-rest (search) .match .rest .0 .0 .0 .1) (at-match-rest (search) .match .rest .0 .0 .1) (at-match-rest (search) .match .rest .0 .1) (at-match-rest (search) .match .rest .1) .1)), (y-readable _ _ _ _ _ (start (search) .pre .0) _ (after-operation-at (search) .operation-at .ensures) (λ z. omega (arith, z, left-apart (recordFrom (start (search) .args .sheet .now) (start (search) .args .i)) _ (after-operation-at (search) .operation-at .ensures) (start (search) .pre .1) (some _ _ _ _ _ (start (search) .pre .0) _ (after-operation-at (search) .operation-at .ensures)) (most _ _ _ _ _ (start (search) .pre .0) _ (after-operation-at (search) .operation-at .ensures)) (at-match-rest (search) .match .rest .0 .0 .0 .0 .1) (at-match-rest (search) .match .rest .0 .0 .0 .1) (at-match-rest (search) .match .rest .0 .0 .1) (at-match-rest (search) .match .rest .0 .1) (at-match-rest (search) .match .rest .1) .1)), judged _ _ _ _ _ (start (search) .pre .0)))
 
 unless-refused-requires-6 : tie.Need-unless-refused-requires-6
 unless-refused-requires-6 c κs = search needs
@@ -51,19 +91,19 @@ same-length : tie.Need-same-length
 same-length c = search needs
 
 returns : tie.Need-returns
-returns c = λ w. arm-2 (c .before .before .before .before .before .before .before .before .before .before .before .before .args .c) (recordFrom (c .before .before .before .before .before .before .before .before .before .before .before .before .args .sheet .now) (c .before .before .before .before .before .before .before .before .before .before .before .before .args .i)) (c .before .before .before .before .before .before .before .before .before .before .before .before .args .f) (c .before .before .before .before .before .before .before .before .before .before .before .before .args .links .now) (c .before .before .before .before .before .before .before .before .before .before .before .before .args .axis .now) (c .before .before .before .before .before .before .before .before .before .before .before .before .args .times .now) (c .before .before .before .before .before .before .before .before .before .before .before .before .args .marks .now) w _ _ _ (c .unless-refused .ensures) (sym (c .before .before .before .before .before .before .operation-at .ensures) ∙ c .before .before .before .before .before .match .keys1) (c .before .before .before .follow-of .ensures)
+returns c = λ w. arm-2 (start (search) .args .c) (recordFrom (start (search) .args .sheet .now) (start (search) .args .i)) (start (search) .args .f) (start (search) .args .links .now) (start (search) .args .axis .now) (start (search) .args .times .now) (start (search) .args .marks .now) w _ _ _ (c .unless-refused .ensures) (sym (after-operation-at (search) .operation-at .ensures) ∙ at-match-keys1 (search) .match .keys1) (after-follow-of (search) .follow-of .ensures)
 
 same-length-2 : tie.Need-same-length-2
 same-length-2 c = search needs
 
 returns-2 : tie.Need-returns-2
-returns-2 c = λ w. arm-3 (c .before .before .before .before .before .before .before .before .before .before .before .before .args .c) (recordFrom (c .before .before .before .before .before .before .before .before .before .before .before .before .args .sheet .now) (c .before .before .before .before .before .before .before .before .before .before .before .before .args .i)) (c .before .before .before .before .before .before .before .before .before .before .before .before .args .f) (c .before .before .before .before .before .before .before .before .before .before .before .before .args .links .now) (c .before .before .before .before .before .before .before .before .before .before .before .before .args .axis .now) (c .before .before .before .before .before .before .before .before .before .before .before .before .args .times .now) (c .before .before .before .before .before .before .before .before .before .before .before .before .args .marks .now) w _ _ _ (c .unless-refused2 .ensures) (sym (c .before .before .before .before .before .before .operation-at .ensures) ∙ c .before .before .before .before .before .match .keys2) (c .before .before .before .precede-of .ensures)
+returns-2 c = λ w. arm-3 (start (search) .args .c) (recordFrom (start (search) .args .sheet .now) (start (search) .args .i)) (start (search) .args .f) (start (search) .args .links .now) (start (search) .args .axis .now) (start (search) .args .times .now) (start (search) .args .marks .now) w _ _ _ (c .unless-refused2 .ensures) (sym (after-operation-at (search) .operation-at .ensures) ∙ at-match-keys2 (search) .match .keys2) (after-precede-of (search) .precede-of .ensures)
 
 same-length-3 : tie.Need-same-length-3
 same-length-3 c = search needs
 
 returns-3 : tie.Need-returns-3
-returns-3 c = λ w. arm-5 (c .before .before .before .before .before .before .before .before .before .before .before .before .args .c) (recordFrom (c .before .before .before .before .before .before .before .before .before .before .before .before .args .sheet .now) (c .before .before .before .before .before .before .before .before .before .before .before .before .args .i)) (c .before .before .before .before .before .before .before .before .before .before .before .before .args .f) (c .before .before .before .before .before .before .before .before .before .before .before .before .args .links .now) (c .before .before .before .before .before .before .before .before .before .before .before .before .args .axis .now) (c .before .before .before .before .before .before .before .before .before .before .before .before .args .times .now) (c .before .before .before .before .before .before .before .before .before .before .before .before .args .marks .now) w _ _ _ (c .unless-refused3 .ensures) (sym (c .before .before .before .before .before .before .operation-at .ensures) ∙ c .before .before .before .before .before .match .keys3) (c .before .before .before .clear-of .ensures)
+returns-3 c = λ w. arm-5 (start (search) .args .c) (recordFrom (start (search) .args .sheet .now) (start (search) .args .i)) (start (search) .args .f) (start (search) .args .links .now) (start (search) .args .axis .now) (start (search) .args .times .now) (start (search) .args .marks .now) w _ _ _ (c .unless-refused3 .ensures) (sym (after-operation-at (search) .operation-at .ensures) ∙ at-match-keys3 (search) .match .keys3) (after-clear-of (search) .clear-of .ensures)
 
 same-length-4 : tie.Need-same-length-4
 same-length-4 c = search needs
@@ -72,7 +112,7 @@ same-length-5 : tie.Need-same-length-5
 same-length-5 c = search needs
 
 returns-4 : tie.Need-returns-4
-returns-4 c = λ w. arm-7 (c .before .before .before .before .before .before .before .before .before .before .before .before .before .before .before .args .c) (recordFrom (c .before .before .before .before .before .before .before .before .before .before .before .before .before .before .before .args .sheet .now) (c .before .before .before .before .before .before .before .before .before .before .before .before .before .before .before .args .i)) (c .before .before .before .before .before .before .before .before .before .before .before .before .before .before .before .args .f) (c .before .before .before .before .before .before .before .before .before .before .before .before .before .before .before .args .links .now) (c .before .before .before .before .before .before .before .before .before .before .before .before .before .before .before .args .axis .now) (c .before .before .before .before .before .before .before .before .before .before .before .before .before .before .before .args .times .now) (c .before .before .before .before .before .before .before .before .before .before .before .before .before .before .before .args .marks .now) w _ _ _ _ (c .unless-refused4 .ensures) (sym (c .before .before .before .before .before .before .before .before .before .operation-at .ensures) ∙ c .before .before .before .before .before .before .before .before .match .keys4) (c .before .before .before .before .before .passivate .ensures)
+returns-4 c = λ w. arm-7 (start (search) .args .c) (recordFrom (start (search) .args .sheet .now) (start (search) .args .i)) (start (search) .args .f) (start (search) .args .links .now) (start (search) .args .axis .now) (start (search) .args .times .now) (start (search) .args .marks .now) w _ _ _ _ (c .unless-refused4 .ensures) (sym (after-operation-at (search) .operation-at .ensures) ∙ at-match-keys4 (search) .match .keys4) (after-passivate (search) .passivate .ensures)
 
 same-length-6 : tie.Need-same-length-6
 same-length-6 c = search needs
@@ -84,7 +124,7 @@ same-length-8 : tie.Need-same-length-8
 same-length-8 c = search needs
 
 returns-5 : tie.Need-returns-5
-returns-5 c = λ w. arm-9 (c .before .before .before .before .before .before .before .before .before .before .before .before .before .before .before .before .args .c) (recordFrom (c .before .before .before .before .before .before .before .before .before .before .before .before .before .before .before .before .args .sheet .now) (c .before .before .before .before .before .before .before .before .before .before .before .before .before .before .before .before .args .i)) (c .before .before .before .before .before .before .before .before .before .before .before .before .before .before .before .before .args .f) (c .before .before .before .before .before .before .before .before .before .before .before .before .before .before .before .before .args .links .now) (c .before .before .before .before .before .before .before .before .before .before .before .before .before .before .before .before .args .axis .now) (c .before .before .before .before .before .before .before .before .before .before .before .before .before .before .before .before .args .times .now) (c .before .before .before .before .before .before .before .before .before .before .before .before .before .before .before .before .args .marks .now) w _ _ _ _ (c .unless-refused5 .ensures) (sym (c .before .before .before .before .before .before .before .before .before .before .operation-at .ensures) ∙ c .before .before .before .before .before .before .before .before .before .match .keys5) (c .before .before .before .before .before .cancel-of .ensures)
+returns-5 c = λ w. arm-9 (start (search) .args .c) (recordFrom (start (search) .args .sheet .now) (start (search) .args .i)) (start (search) .args .f) (start (search) .args .links .now) (start (search) .args .axis .now) (start (search) .args .times .now) (start (search) .args .marks .now) w _ _ _ _ (c .unless-refused5 .ensures) (sym (after-operation-at (search) .operation-at .ensures) ∙ at-match-keys5 (search) .match .keys5) (after-cancel-of (search) .cancel-of .ensures)
 
 same-length-9 : tie.Need-same-length-9
 same-length-9 c = search needs

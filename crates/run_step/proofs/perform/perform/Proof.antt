@@ -9,14 +9,27 @@ use native.Mathlib.Omega.{arith}
 use Rattle.run_step.proofs.perform.perform.Statement.{statement}
 use Rattle.run_step.proofs.perform.perform.Tie as tie
 
+-- The places that the answers look back to: `search` finds each by its type.
+abbrev start : tie.Start → tie.Start
+start x = x
+
+abbrev else1 : tie.Else1 → tie.Else1
+else1 x = x
+
+abbrev after-record-offset : tie.After-record-offset → tie.After-record-offset
+after-record-offset x = x
+
+abbrev after-perform-at : tie.After-perform-at → tie.After-perform-at
+after-perform-at x = x
+
 returns : tie.Need-returns
-returns c = tried-not _ _ _ _ _ (apart-0 (recordGot (c .before .before .before .before .before .before .args .c .processes) (c .before .before .before .before .before .before .args .sheet .now) (c .before .before .before .before .before .before .args .r)) (ap (λ (q : Record). q .operation) (sym (got-end _ _ _ (c .if1 .taken)))))
+returns c = tried-not _ _ _ _ _ (apart-0 (recordGot (start (search) .args .c .processes) (start (search) .args .sheet .now) (start (search) .args .r)) (ap (λ (q : Record). q .operation) (sym (got-end _ _ _ (c .if1 .taken)))))
 
 record-offset-requires : tie.Need-record-offset-requires
 record-offset-requires c κs = omega (arith, c .if1 .left)
 
 perform-at-requires : tie.Need-perform-at-requires
-perform-at-requires c κs = rw (c .before .before .before .before .record-offset .ensures) ((c .before .before .before .before .before .before .before .before .before .before .before .pre) (c .before .before .before .before .before .if1 .left))
+perform-at-requires c κs = rw (after-record-offset (search) .record-offset .ensures) ((start (search) .pre) (else1 (search) .if1 .left))
 
 same-length : tie.Need-same-length
 same-length c = search needs
@@ -31,7 +44,7 @@ same-length-4 : tie.Need-same-length-4
 same-length-4 c = search needs
 
 returns-2 : tie.Need-returns-2
-returns-2 c = tried-at _ _ _ _ (c .before .before .before .before .before .before .before .before .before .before .before .before .before .if1 .left) (c .before .before .before .before .before .before .before .before .before .before .before .before .record-offset .ensures) _ _ _ _ (c .before .before .before .before .before .before .before .perform-at .ensures)
+returns-2 c = tried-at _ _ _ _ (else1 (search) .if1 .left) (after-record-offset (search) .record-offset .ensures) _ _ _ _ (after-perform-at (search) .perform-at .ensures)
 
 pub perform-spec : {M : Type 1} → statement M
 perform-spec =

@@ -8,38 +8,90 @@ use native.Mathlib.Omega.{arith}
 use Rattle.run_step.proofs.perform.perform_at.Statement.{statement}
 use Rattle.run_step.proofs.perform.perform_at.Tie as tie
 
+-- The places that the answers look back to: `search` finds each by its type.
+abbrev start : tie.Start → tie.Start
+start x = x
+
+abbrev after-operation-at : tie.After-operation-at → tie.After-operation-at
+after-operation-at x = x
+
+abbrev at-match-keys1 : tie.At-match-keys1 → tie.At-match-keys1
+at-match-keys1 x = x
+
+abbrev after-out-of : tie.After-out-of → tie.After-out-of
+after-out-of x = x
+
+abbrev at-match-keys2 : tie.At-match-keys2 → tie.At-match-keys2
+at-match-keys2 x = x
+
+abbrev after-into-of : tie.After-into-of → tie.After-into-of
+after-into-of x = x
+
+abbrev at-match-keys3 : tie.At-match-keys3 → tie.At-match-keys3
+at-match-keys3 x = x
+
+abbrev after-hold-of : tie.After-hold-of → tie.After-hold-of
+after-hold-of x = x
+
+abbrev at-match-keys4 : tie.At-match-keys4 → tie.At-match-keys4
+at-match-keys4 x = x
+
+abbrev after-wait-of : tie.After-wait-of → tie.After-wait-of
+after-wait-of x = x
+
+abbrev at-match-keys5 : tie.At-match-keys5 → tie.At-match-keys5
+at-match-keys5 x = x
+
+abbrev after-clause-at : tie.After-clause-at → tie.After-clause-at
+after-clause-at x = x
+
+abbrev then1 : tie.Then1 → tie.Then1
+then1 x = x
+
+abbrev after-delayed-of : tie.After-delayed-of → tie.After-delayed-of
+after-delayed-of x = x
+
+abbrev then2 : tie.Then2 → tie.Then2
+then2 x = x
+
+abbrev after-direct-of : tie.After-direct-of → tie.After-direct-of
+after-direct-of x = x
+
+abbrev at-match-keys7 : tie.At-match-keys7 → tie.At-match-keys7
+at-match-keys7 x = x
+
 operation-at-requires : tie.Need-operation-at-requires
-operation-at-requires c κs = c .before .before .before .before .before .pre .callable .inside
+operation-at-requires c κs = start (search) .pre .callable .inside
 
 out-of-requires : tie.Need-out-of-requires
-out-of-requires c κs = x-readable _ _ _ _ _ (c .before .before .before .before .before .before .before .before .pre .callable) _ (c .before .before .operation-at .ensures) (λ z. omega (arith, c .before .match .keys1))
+out-of-requires c κs = x-readable _ _ _ _ _ (start (search) .pre .callable) _ (c .before .before .operation-at .ensures) (λ z. omega (arith, c .before .match .keys1))
 
 unless-refused-requires : tie.Need-unless-refused-requires
 unless-refused-requires c κs = search needs
 
 into-of-requires : tie.Need-into-of-requires
-into-of-requires c κs = (x-readable _ _ _ _ _ (c .before .before .before .before .before .before .before .before .pre .callable) _ (c .before .before .operation-at .ensures) (λ z. omega (arith, c .before .match .keys2)), y-readable _ _ _ _ _ (c .before .before .before .before .before .before .before .before .pre .callable) _ (c .before .before .operation-at .ensures) (λ z. omega (arith, c .before .match .keys2)))
+into-of-requires c κs = (x-readable _ _ _ _ _ (start (search) .pre .callable) _ (c .before .before .operation-at .ensures) (λ z. omega (arith, c .before .match .keys2)), y-readable _ _ _ _ _ (start (search) .pre .callable) _ (c .before .before .operation-at .ensures) (λ z. omega (arith, c .before .match .keys2)))
 
 unless-refused-requires-2 : tie.Need-unless-refused-requires-2
 unless-refused-requires-2 c κs = search needs
 
 hold-of-requires : tie.Need-hold-of-requires
-hold-of-requires c κs = (c .before .before .before .before .before .before .before .before .before .pre .callable .inside, (takeable _ _ _ _ _ (c .before .before .before .before .before .before .before .before .before .pre .callable), noticed _ _ _ _ _ _ _ (c .before .before .before .before .before .before .before .before .before .pre)))
+hold-of-requires c κs = (start (search) .pre .callable .inside, (takeable _ _ _ _ _ (start (search) .pre .callable), noticed _ _ _ _ _ _ _ (start (search) .pre)))
 
 unless-refused-requires-3 : tie.Need-unless-refused-requires-3
 unless-refused-requires-3 c κs = search needs
 
 wait-of-requires : tie.Need-wait-of-requires
-wait-of-requires c κs = (y-readable _ _ _ _ _ (c .before .before .before .before .before .before .before .before .before .before .pre .callable) _ (c .before .before .before .before .operation-at .ensures) (λ z. omega (arith, c .before .before .before .match .keys4)), takeable _ _ _ _ _ (c .before .before .before .before .before .before .before .before .before .before .pre .callable))
+wait-of-requires c κs = (y-readable _ _ _ _ _ (start (search) .pre .callable) _ (after-operation-at (search) .operation-at .ensures) (λ z. omega (arith, at-match-keys4 (search) .match .keys4)), takeable _ _ _ _ _ (start (search) .pre .callable))
 
 unless-refused-requires-4 : tie.Need-unless-refused-requires-4
 unless-refused-requires-4 c κs = search needs
 
 clause-at-requires : tie.Need-clause-at-requires
-clause-at-requires c κs = c .before .before .before .before .before .before .before .pre .callable .inside
+clause-at-requires c κs = start (search) .pre .callable .inside
 
 delayed-of-requires : tie.Need-delayed-of-requires
-delayed-of-requires c κs = (x-readable _ _ _ _ _ (c .before .before .before .before .before .before .before .before .before .before .before .before .pre .callable) _ (c .before .before .before .before .before .before .operation-at .ensures) (λ z. omega (arith, c .before .before .before .before .before .match .keys5)), (judged _ _ _ _ _ (c .before .before .before .before .before .before .before .before .before .before .before .before .pre .callable), noticed _ _ _ _ _ _ _ (c .before .before .before .before .before .before .before .before .before .before .before .before .pre)))
+delayed-of-requires c κs = (x-readable _ _ _ _ _ (start (search) .pre .callable) _ (after-operation-at (search) .operation-at .ensures) (λ z. omega (arith, at-match-keys5 (search) .match .keys5)), (judged _ _ _ _ _ (start (search) .pre .callable), noticed _ _ _ _ _ _ _ (start (search) .pre)))
 
 unless-refused-requires-5 : tie.Need-unless-refused-requires-5
 unless-refused-requires-5 c κs = search needs
@@ -54,10 +106,10 @@ same-length-3 : tie.Need-same-length-3
 same-length-3 c = search needs
 
 returns : tie.Need-returns
-returns c = tried-made _ _ _ _ _ (here-soon (recordFrom (c .before .before .before .before .before .before .before .before .before .before .before .before .before .before .before .before .before .before .args .sheet .now) (c .before .before .before .before .before .before .before .before .before .before .before .before .before .before .before .before .before .before .args .i)) 2 refl (sym (c .before .before .before .before .before .before .before .before .before .before .before .before .operation-at .ensures) ∙ c .before .before .before .before .before .before .before .before .before .before .before .match .keys5) (sym (c .before .before .before .before .before .before .before .before .before .before .clause-at .ensures) ∙ c .before .before .before .before .before .before .before .before .before .if1 .taken)) _ (arm-delay (c .before .before .before .before .before .before .before .before .before .before .before .before .before .before .before .before .before .before .args .c) (recordFrom (c .before .before .before .before .before .before .before .before .before .before .before .before .before .before .before .before .before .before .args .sheet .now) (c .before .before .before .before .before .before .before .before .before .before .before .before .before .before .before .before .before .before .args .i)) (c .before .before .before .before .before .before .before .before .before .before .before .before .before .before .before .before .before .before .args .f) (c .before .before .before .before .before .before .before .before .before .before .before .before .before .before .before .before .before .before .args .links .now) (c .before .before .before .before .before .before .before .before .before .before .before .before .before .before .before .before .before .before .args .axis .now) (c .before .before .before .before .before .before .before .before .before .before .before .before .before .before .before .before .before .before .args .times .now) (c .before .before .before .before .before .before .before .before .before .before .before .before .before .before .before .before .before .before .args .marks .now) (c .before .before .before .before .before .before .before .before .before .before .before .before .before .before .before .before .before .before .args .accums .now) _ _ _ _ (c .unless-refused5 .ensures) (sym (c .before .before .before .before .before .before .before .before .before .before .before .before .operation-at .ensures) ∙ c .before .before .before .before .before .before .before .before .before .before .before .match .keys5) (sym (c .before .before .before .before .before .before .before .before .before .before .clause-at .ensures) ∙ c .before .before .before .before .before .before .before .before .before .if1 .taken) (c .before .before .before .before .before .delayed-of .ensures))
+returns c = tried-made _ _ _ _ _ (here-soon (recordFrom (start (search) .args .sheet .now) (start (search) .args .i)) 2 refl (sym (after-operation-at (search) .operation-at .ensures) ∙ at-match-keys5 (search) .match .keys5) (sym (after-clause-at (search) .clause-at .ensures) ∙ then1 (search) .if1 .taken)) _ (arm-delay (start (search) .args .c) (recordFrom (start (search) .args .sheet .now) (start (search) .args .i)) (start (search) .args .f) (start (search) .args .links .now) (start (search) .args .axis .now) (start (search) .args .times .now) (start (search) .args .marks .now) (start (search) .args .accums .now) _ _ _ _ (c .unless-refused5 .ensures) (sym (after-operation-at (search) .operation-at .ensures) ∙ at-match-keys5 (search) .match .keys5) (sym (after-clause-at (search) .clause-at .ensures) ∙ then1 (search) .if1 .taken) (after-delayed-of (search) .delayed-of .ensures))
 
 direct-of-requires : tie.Need-direct-of-requires
-direct-of-requires c κs = (x-readable _ _ _ _ _ (c .before .before .before .before .before .before .before .before .before .before .before .before .before .pre .callable) _ (c .before .before .before .before .before .before .before .operation-at .ensures) (λ z. omega (arith, c .before .before .before .before .before .before .match .keys5)), (judged _ _ _ _ _ (c .before .before .before .before .before .before .before .before .before .before .before .before .before .pre .callable), noticed _ _ _ _ _ _ _ (c .before .before .before .before .before .before .before .before .before .before .before .before .before .pre)))
+direct-of-requires c κs = (x-readable _ _ _ _ _ (start (search) .pre .callable) _ (after-operation-at (search) .operation-at .ensures) (λ z. omega (arith, at-match-keys5 (search) .match .keys5)), (judged _ _ _ _ _ (start (search) .pre .callable), noticed _ _ _ _ _ _ _ (start (search) .pre)))
 
 unless-refused-requires-6 : tie.Need-unless-refused-requires-6
 unless-refused-requires-6 c κs = search needs
@@ -72,13 +124,13 @@ same-length-6 : tie.Need-same-length-6
 same-length-6 c = search needs
 
 returns-2 : tie.Need-returns-2
-returns-2 c = tried-made _ _ _ _ _ (here-soon (recordFrom (c .before .before .before .before .before .before .before .before .before .before .before .before .before .before .before .before .before .before .before .args .sheet .now) (c .before .before .before .before .before .before .before .before .before .before .before .before .before .before .before .before .before .before .before .args .i)) 0 refl (sym (c .before .before .before .before .before .before .before .before .before .before .before .before .before .operation-at .ensures) ∙ c .before .before .before .before .before .before .before .before .before .before .before .before .match .keys5) (sym (c .before .before .before .before .before .before .before .before .before .before .before .clause-at .ensures) ∙ c .before .before .before .before .before .before .before .before .before .if2 .taken)) _ (arm-10 (c .before .before .before .before .before .before .before .before .before .before .before .before .before .before .before .before .before .before .before .args .c) (recordFrom (c .before .before .before .before .before .before .before .before .before .before .before .before .before .before .before .before .before .before .before .args .sheet .now) (c .before .before .before .before .before .before .before .before .before .before .before .before .before .before .before .before .before .before .before .args .i)) (c .before .before .before .before .before .before .before .before .before .before .before .before .before .before .before .before .before .before .before .args .f) (c .before .before .before .before .before .before .before .before .before .before .before .before .before .before .before .before .before .before .before .args .links .now) (c .before .before .before .before .before .before .before .before .before .before .before .before .before .before .before .before .before .before .before .args .axis .now) (c .before .before .before .before .before .before .before .before .before .before .before .before .before .before .before .before .before .before .before .args .times .now) (c .before .before .before .before .before .before .before .before .before .before .before .before .before .before .before .before .before .before .before .args .marks .now) (c .before .before .before .before .before .before .before .before .before .before .before .before .before .before .before .before .before .before .before .args .accums .now) _ _ _ _ (c .unless-refused6 .ensures) (sym (c .before .before .before .before .before .before .before .before .before .before .before .before .before .operation-at .ensures) ∙ c .before .before .before .before .before .before .before .before .before .before .before .before .match .keys5) (sym (c .before .before .before .before .before .before .before .before .before .before .before .clause-at .ensures) ∙ c .before .before .before .before .before .before .before .before .before .if2 .taken) (c .before .before .before .before .before .direct-of .ensures))
+returns-2 c = tried-made _ _ _ _ _ (here-soon (recordFrom (start (search) .args .sheet .now) (start (search) .args .i)) 0 refl (sym (after-operation-at (search) .operation-at .ensures) ∙ at-match-keys5 (search) .match .keys5) (sym (after-clause-at (search) .clause-at .ensures) ∙ then2 (search) .if2 .taken)) _ (arm-10 (start (search) .args .c) (recordFrom (start (search) .args .sheet .now) (start (search) .args .i)) (start (search) .args .f) (start (search) .args .links .now) (start (search) .args .axis .now) (start (search) .args .times .now) (start (search) .args .marks .now) (start (search) .args .accums .now) _ _ _ _ (c .unless-refused6 .ensures) (sym (after-operation-at (search) .operation-at .ensures) ∙ at-match-keys5 (search) .match .keys5) (sym (after-clause-at (search) .clause-at .ensures) ∙ then2 (search) .if2 .taken) (after-direct-of (search) .direct-of .ensures))
 
 branch-requires : tie.Need-branch-requires
-branch-requires c κs = (x-readable _ _ _ _ _ (c .before .before .before .before .before .before .before .before .pre .callable) _ (c .before .before .operation-at .ensures) (λ z. omega (arith, c .before .match .keys6)), place-some _ _ _ _ _ (c .before .before .before .before .before .before .before .before .pre .callable))
+branch-requires c κs = (x-readable _ _ _ _ _ (start (search) .pre .callable) _ (c .before .before .operation-at .ensures) (λ z. omega (arith, c .before .match .keys6)), place-some _ _ _ _ _ (start (search) .pre .callable))
 
 accum-of-requires : tie.Need-accum-of-requires
-accum-of-requires c κs = (c .before .before .before .before .before .before .before .before .pre .callable .inside, numbered _ _ _ _ _ _ _ (c .before .before .before .before .before .before .before .before .pre) _ (c .before .before .operation-at .ensures) (c .before .match .keys7))
+accum-of-requires c κs = (start (search) .pre .callable .inside, numbered _ _ _ _ _ _ _ (start (search) .pre) _ (c .before .before .operation-at .ensures) (c .before .match .keys7))
 
 unless-refused-requires-7 : tie.Need-unless-refused-requires-7
 unless-refused-requires-7 c κs = search needs
@@ -87,13 +139,13 @@ same-length-7 : tie.Need-same-length-7
 same-length-7 c = search needs
 
 returns-3 : tie.Need-returns-3
-returns-3 c = tried-made _ _ _ _ _ (here (recordFrom (c .before .before .before .before .before .before .before .before .before .before .before .before .args .sheet .now) (c .before .before .before .before .before .before .before .before .before .before .before .before .args .i)) 1 refl refl (sym (c .before .before .before .before .before .before .operation-at .ensures) ∙ c .before .before .before .before .before .match .keys1)) _ (arm-1 (c .before .before .before .before .before .before .before .before .before .before .before .before .args .c) (recordFrom (c .before .before .before .before .before .before .before .before .before .before .before .before .args .sheet .now) (c .before .before .before .before .before .before .before .before .before .before .before .before .args .i)) (c .before .before .before .before .before .before .before .before .before .before .before .before .args .f) (c .before .before .before .before .before .before .before .before .before .before .before .before .args .links .now) (c .before .before .before .before .before .before .before .before .before .before .before .before .args .axis .now) (c .before .before .before .before .before .before .before .before .before .before .before .before .args .times .now) (c .before .before .before .before .before .before .before .before .before .before .before .before .args .marks .now) (c .before .before .before .before .before .before .before .before .before .before .before .before .args .accums .now) _ _ _ (c .unless-refused .ensures) (sym (c .before .before .before .before .before .before .operation-at .ensures) ∙ c .before .before .before .before .before .match .keys1) (c .before .before .before .out-of .ensures))
+returns-3 c = tried-made _ _ _ _ _ (here (recordFrom (start (search) .args .sheet .now) (start (search) .args .i)) 1 refl refl (sym (after-operation-at (search) .operation-at .ensures) ∙ at-match-keys1 (search) .match .keys1)) _ (arm-1 (start (search) .args .c) (recordFrom (start (search) .args .sheet .now) (start (search) .args .i)) (start (search) .args .f) (start (search) .args .links .now) (start (search) .args .axis .now) (start (search) .args .times .now) (start (search) .args .marks .now) (start (search) .args .accums .now) _ _ _ (c .unless-refused .ensures) (sym (after-operation-at (search) .operation-at .ensures) ∙ at-match-keys1 (search) .match .keys1) (after-out-of (search) .out-of .ensures))
 
 same-length-8 : tie.Need-same-length-8
 same-length-8 c = search needs
 
 returns-4 : tie.Need-returns-4
-returns-4 c = tried-made _ _ _ _ _ (here (recordFrom (c .before .before .before .before .before .before .before .before .before .before .before .before .args .sheet .now) (c .before .before .before .before .before .before .before .before .before .before .before .before .args .i)) 4 refl refl (sym (c .before .before .before .before .before .before .operation-at .ensures) ∙ c .before .before .before .before .before .match .keys2)) _ (arm-4 (c .before .before .before .before .before .before .before .before .before .before .before .before .args .c) (recordFrom (c .before .before .before .before .before .before .before .before .before .before .before .before .args .sheet .now) (c .before .before .before .before .before .before .before .before .before .before .before .before .args .i)) (c .before .before .before .before .before .before .before .before .before .before .before .before .args .f) (c .before .before .before .before .before .before .before .before .before .before .before .before .args .links .now) (c .before .before .before .before .before .before .before .before .before .before .before .before .args .axis .now) (c .before .before .before .before .before .before .before .before .before .before .before .before .args .times .now) (c .before .before .before .before .before .before .before .before .before .before .before .before .args .marks .now) (c .before .before .before .before .before .before .before .before .before .before .before .before .args .accums .now) _ _ _ (c .unless-refused2 .ensures) (sym (c .before .before .before .before .before .before .operation-at .ensures) ∙ c .before .before .before .before .before .match .keys2) (c .before .before .before .into-of .ensures))
+returns-4 c = tried-made _ _ _ _ _ (here (recordFrom (start (search) .args .sheet .now) (start (search) .args .i)) 4 refl refl (sym (after-operation-at (search) .operation-at .ensures) ∙ at-match-keys2 (search) .match .keys2)) _ (arm-4 (start (search) .args .c) (recordFrom (start (search) .args .sheet .now) (start (search) .args .i)) (start (search) .args .f) (start (search) .args .links .now) (start (search) .args .axis .now) (start (search) .args .times .now) (start (search) .args .marks .now) (start (search) .args .accums .now) _ _ _ (c .unless-refused2 .ensures) (sym (after-operation-at (search) .operation-at .ensures) ∙ at-match-keys2 (search) .match .keys2) (after-into-of (search) .into-of .ensures))
 
 same-length-9 : tie.Need-same-length-9
 same-length-9 c = search needs
@@ -102,7 +154,7 @@ same-length-10 : tie.Need-same-length-10
 same-length-10 c = search needs
 
 returns-5 : tie.Need-returns-5
-returns-5 c = tried-made _ _ _ _ _ (here (recordFrom (c .before .before .before .before .before .before .before .before .before .before .before .before .before .before .before .args .sheet .now) (c .before .before .before .before .before .before .before .before .before .before .before .before .before .before .before .args .i)) 6 refl refl (sym (c .before .before .before .before .before .before .before .before .before .operation-at .ensures) ∙ c .before .before .before .before .before .before .before .before .match .keys3)) _ (arm-6 (c .before .before .before .before .before .before .before .before .before .before .before .before .before .before .before .args .c) (recordFrom (c .before .before .before .before .before .before .before .before .before .before .before .before .before .before .before .args .sheet .now) (c .before .before .before .before .before .before .before .before .before .before .before .before .before .before .before .args .i)) (c .before .before .before .before .before .before .before .before .before .before .before .before .before .before .before .args .f) (c .before .before .before .before .before .before .before .before .before .before .before .before .before .before .before .args .links .now) (c .before .before .before .before .before .before .before .before .before .before .before .before .before .before .before .args .axis .now) (c .before .before .before .before .before .before .before .before .before .before .before .before .before .before .before .args .times .now) (c .before .before .before .before .before .before .before .before .before .before .before .before .before .before .before .args .marks .now) (c .before .before .before .before .before .before .before .before .before .before .before .before .before .before .before .args .accums .now) _ _ _ _ (c .unless-refused3 .ensures) (sym (c .before .before .before .before .before .before .before .before .before .operation-at .ensures) ∙ c .before .before .before .before .before .before .before .before .match .keys3) (c .before .before .before .before .before .hold-of .ensures))
+returns-5 c = tried-made _ _ _ _ _ (here (recordFrom (start (search) .args .sheet .now) (start (search) .args .i)) 6 refl refl (sym (after-operation-at (search) .operation-at .ensures) ∙ at-match-keys3 (search) .match .keys3)) _ (arm-6 (start (search) .args .c) (recordFrom (start (search) .args .sheet .now) (start (search) .args .i)) (start (search) .args .f) (start (search) .args .links .now) (start (search) .args .axis .now) (start (search) .args .times .now) (start (search) .args .marks .now) (start (search) .args .accums .now) _ _ _ _ (c .unless-refused3 .ensures) (sym (after-operation-at (search) .operation-at .ensures) ∙ at-match-keys3 (search) .match .keys3) (after-hold-of (search) .hold-of .ensures))
 
 same-length-11 : tie.Need-same-length-11
 same-length-11 c = search needs
@@ -114,25 +166,25 @@ same-length-13 : tie.Need-same-length-13
 same-length-13 c = search needs
 
 returns-6 : tie.Need-returns-6
-returns-6 c = tried-made _ _ _ _ _ (here (recordFrom (c .before .before .before .before .before .before .before .before .before .before .before .before .before .before .before .before .before .before .args .sheet .now) (c .before .before .before .before .before .before .before .before .before .before .before .before .before .before .before .before .before .before .args .i)) 8 refl refl (sym (c .before .before .before .before .before .before .before .before .before .before .before .before .operation-at .ensures) ∙ c .before .before .before .before .before .before .before .before .before .before .before .match .keys4)) _ (arm-8 (c .before .before .before .before .before .before .before .before .before .before .before .before .before .before .before .before .before .before .args .c) (recordFrom (c .before .before .before .before .before .before .before .before .before .before .before .before .before .before .before .before .before .before .args .sheet .now) (c .before .before .before .before .before .before .before .before .before .before .before .before .before .before .before .before .before .before .args .i)) (c .before .before .before .before .before .before .before .before .before .before .before .before .before .before .before .before .before .before .args .f) (c .before .before .before .before .before .before .before .before .before .before .before .before .before .before .before .before .before .before .args .links .now) (c .before .before .before .before .before .before .before .before .before .before .before .before .before .before .before .before .before .before .args .axis .now) (c .before .before .before .before .before .before .before .before .before .before .before .before .before .before .before .before .before .before .args .times .now) (c .before .before .before .before .before .before .before .before .before .before .before .before .before .before .before .before .before .before .args .marks .now) (c .before .before .before .before .before .before .before .before .before .before .before .before .before .before .before .before .before .before .args .accums .now) _ _ _ _ (c .unless-refused4 .ensures) _ (sym (c .before .before .before .before .before .before .before .before .before .before .before .before .operation-at .ensures) ∙ c .before .before .before .before .before .before .before .before .before .before .before .match .keys4) (c .before .before .before .before .before .before .before .wait-of .ensures))
+returns-6 c = tried-made _ _ _ _ _ (here (recordFrom (start (search) .args .sheet .now) (start (search) .args .i)) 8 refl refl (sym (after-operation-at (search) .operation-at .ensures) ∙ at-match-keys4 (search) .match .keys4)) _ (arm-8 (start (search) .args .c) (recordFrom (start (search) .args .sheet .now) (start (search) .args .i)) (start (search) .args .f) (start (search) .args .links .now) (start (search) .args .axis .now) (start (search) .args .times .now) (start (search) .args .marks .now) (start (search) .args .accums .now) _ _ _ _ (c .unless-refused4 .ensures) _ (sym (after-operation-at (search) .operation-at .ensures) ∙ at-match-keys4 (search) .match .keys4) (after-wait-of (search) .wait-of .ensures))
 
 returns-7 : tie.Need-returns-7
-returns-7 c = tried-not _ _ _ _ _ (apart-10 (recordFrom (c .before .before .before .before .before .before .before .before .before .before .args .sheet .now) (c .before .before .before .before .before .before .before .before .before .before .args .i)) (sym (c .before .before .before .before .operation-at .ensures) ∙ c .before .before .before .match .keys5) (λ z. c .before .if1 .left (c .before .before .clause-at .ensures ∙ z)) (λ z. c .if2 .left (c .before .before .clause-at .ensures ∙ z)))
+returns-7 c = tried-not _ _ _ _ _ (apart-10 (recordFrom (start (search) .args .sheet .now) (start (search) .args .i)) (sym (after-operation-at (search) .operation-at .ensures) ∙ at-match-keys5 (search) .match .keys5) (λ z. c .before .if1 .left (c .before .before .clause-at .ensures ∙ z)) (λ z. c .if2 .left (c .before .before .clause-at .ensures ∙ z)))
 
 same-length-14 : tie.Need-same-length-14
 same-length-14 c = search needs
 
 returns-8 : tie.Need-returns-8
-returns-8 c = tried-made _ _ _ _ _ (here (recordFrom (c .before .before .before .before .before .before .before .before .before .args .sheet .now) (c .before .before .before .before .before .before .before .before .before .args .i)) 12 refl refl (sym (c .before .before .before .operation-at .ensures) ∙ c .before .before .match .keys6)) _ (arm-12 (c .before .before .before .before .before .before .before .before .before .args .c) (recordFrom (c .before .before .before .before .before .before .before .before .before .args .sheet .now) (c .before .before .before .before .before .before .before .before .before .args .i)) (c .before .before .before .before .before .before .before .before .before .args .f) (c .before .before .before .before .before .before .before .before .before .args .links .now) (c .before .before .before .before .before .before .before .before .before .args .axis .now) (c .before .before .before .before .before .before .before .before .before .args .times .now) (c .before .before .before .before .before .before .before .before .before .args .marks .now) (c .before .before .before .before .before .before .before .before .before .args .accums .now) (sym (c .before .before .before .operation-at .ensures) ∙ c .before .before .match .keys6) _ (c .branch .ensures))
+returns-8 c = tried-made _ _ _ _ _ (here (recordFrom (start (search) .args .sheet .now) (start (search) .args .i)) 12 refl refl (sym (after-operation-at (search) .operation-at .ensures) ∙ c .before .before .match .keys6)) _ (arm-12 (start (search) .args .c) (recordFrom (start (search) .args .sheet .now) (start (search) .args .i)) (start (search) .args .f) (start (search) .args .links .now) (start (search) .args .axis .now) (start (search) .args .times .now) (start (search) .args .marks .now) (start (search) .args .accums .now) (sym (after-operation-at (search) .operation-at .ensures) ∙ c .before .before .match .keys6) _ (c .branch .ensures))
 
 same-length-15 : tie.Need-same-length-15
 same-length-15 c = search needs
 
 returns-9 : tie.Need-returns-9
-returns-9 c = tried-made _ _ _ _ _ (here (recordFrom (c .before .before .before .before .before .before .before .before .before .before .before .args .sheet .now) (c .before .before .before .before .before .before .before .before .before .before .before .args .i)) 13 refl refl (sym (c .before .before .before .before .before .operation-at .ensures) ∙ c .before .before .before .before .match .keys7)) _ (arm-13 (c .before .before .before .before .before .before .before .before .before .before .before .args .c) (recordFrom (c .before .before .before .before .before .before .before .before .before .before .before .args .sheet .now) (c .before .before .before .before .before .before .before .before .before .before .before .args .i)) (c .before .before .before .before .before .before .before .before .before .before .before .args .f) (c .before .before .before .before .before .before .before .before .before .before .before .args .links .now) (c .before .before .before .before .before .before .before .before .before .before .before .args .axis .now) (c .before .before .before .before .before .before .before .before .before .before .before .args .times .now) (c .before .before .before .before .before .before .before .before .before .before .before .args .marks .now) (c .before .before .before .before .before .before .before .before .before .before .before .args .accums .now) _ _ (sym (c .before .before .before .before .before .operation-at .ensures) ∙ c .before .before .before .before .match .keys7) (in-sixty-four _ _ _ _ _ _ _ (c .before .before .before .before .before .before .before .before .before .before .before .pre) _ (c .before .before .before .before .before .operation-at .ensures) (c .before .before .before .before .match .keys7)) _ (c .before .before .before .before .before .before .before .before .before .before .before .pre .time-is) _ (c .before .before .accum-of .ensures) (c .unless-refused7 .ensures))
+returns-9 c = tried-made _ _ _ _ _ (here (recordFrom (start (search) .args .sheet .now) (start (search) .args .i)) 13 refl refl (sym (after-operation-at (search) .operation-at .ensures) ∙ at-match-keys7 (search) .match .keys7)) _ (arm-13 (start (search) .args .c) (recordFrom (start (search) .args .sheet .now) (start (search) .args .i)) (start (search) .args .f) (start (search) .args .links .now) (start (search) .args .axis .now) (start (search) .args .times .now) (start (search) .args .marks .now) (start (search) .args .accums .now) _ _ (sym (after-operation-at (search) .operation-at .ensures) ∙ at-match-keys7 (search) .match .keys7) (in-sixty-four _ _ _ _ _ _ _ (start (search) .pre) _ (after-operation-at (search) .operation-at .ensures) (at-match-keys7 (search) .match .keys7)) _ (start (search) .pre .time-is) _ (c .before .before .accum-of .ensures) (c .unless-refused7 .ensures))
 
 returns-10 : tie.Need-returns-10
-returns-10 c = tried-not _ _ _ _ _ (apart-other (recordFrom (c .before .before .before .before .before .before .before .args .sheet .now) (c .before .before .before .before .before .before .before .args .i)) _ (c .before .operation-at .ensures) (c .match .rest .0 .0 .0 .0 .0 .0 .1) (c .match .rest .0 .0 .0 .0 .0 .1) (c .match .rest .0 .0 .0 .0 .1) (c .match .rest .0 .0 .0 .1) (c .match .rest .0 .0 .1) (c .match .rest .0 .1) (c .match .rest .1))
+returns-10 c = tried-not _ _ _ _ _ (apart-other (recordFrom (start (search) .args .sheet .now) (start (search) .args .i)) _ (c .before .operation-at .ensures) (c .match .rest .0 .0 .0 .0 .0 .0 .1) (c .match .rest .0 .0 .0 .0 .0 .1) (c .match .rest .0 .0 .0 .0 .1) (c .match .rest .0 .0 .0 .1) (c .match .rest .0 .0 .1) (c .match .rest .0 .1) (c .match .rest .1))
 
 pub perform-at-spec : {M : Type 1} → statement M
 perform-at-spec =

@@ -10,17 +10,33 @@ wide-requires c κs = search needs
 total-requires : tie.Need-total-requires
 total-requires c κs = search needs
 
+-- The places that the answers look back to: `search` finds each by its type.
+abbrev start : tie.Start → tie.Start
+start x = x
+
+abbrev after-wide : tie.After-wide → tie.After-wide
+after-wide x = x
+
+abbrev after-total : tie.After-total → tie.After-total
+after-total x = x
+
+abbrev else1 : tie.Else1 → tie.Else1
+else1 x = x
+
+abbrev else2 : tie.Else2 → tie.Else2
+else2 x = x
+
 returns : tie.Need-returns
-returns c = operand-low _ _ _ _ (c .before .before .before .before .pre .0) (omega (arith, c .if1 .taken, c .before .before .wide .ensures, c .before .total .ensures))
+returns c = operand-low _ _ _ _ (start (search) .pre .0) (omega (arith, c .if1 .taken, c .before .before .wide .ensures, c .before .total .ensures))
 
 add-result : tie.Need-add-result
-add-result c = omega (arith, c .before .before .before .before .before .before .pre .0 .allowed .heads-in, c .before .before .before .before .before .before .pre .0 .allowed .processes-in, c .before .before .before .before .before .before .pre .0 .place-in)
+add-result c = omega (arith, start (search) .pre .0 .allowed .heads-in, start (search) .pre .0 .allowed .processes-in, start (search) .pre .0 .place-in)
 
 returns-2 : tie.Need-returns-2
-returns-2 c = operand-current _ _ _ _ (c .before .before .before .before .before .before .pre .0) (c .before .if2 .taken)
+returns-2 c = operand-current _ _ _ _ (start (search) .pre .0) (c .before .if2 .taken)
 
 sub-wide : tie.Need-sub-wide
-sub-wide c = above _ _ _ _ (c .before .before .before .before .before .pre .0) (c .before .before .before .before .before .pre .1) (omega (arith, c .before .if1 .left, c .before .before .total .ensures, c .before .before .before .wide .ensures)) (c .if2 .left) .0
+sub-wide c = above _ _ _ _ (start (search) .pre .0) (start (search) .pre .1) (omega (arith, c .before .if1 .left, c .before .before .total .ensures, after-wide (search) .wide .ensures)) (c .if2 .left) .0
 
 wide-requires-2 : tie.Need-wide-requires-2
 wide-requires-2 c κs = search needs
@@ -29,13 +45,13 @@ mul-link-or : tie.Need-mul-link-or
 mul-link-or c = search needs
 
 shared-slice-read-link-or : tie.Need-shared-slice-read-link-or
-shared-slice-read-link-or c = head-within _ _ _ _ (c .before .before .before .before .before .before .before .pre .0) (c .before .before .before .before .before .before .before .pre .1) (omega (arith, c .before .before .before .if1 .left, c .before .before .before .before .total .ensures, c .before .before .before .before .before .wide .ensures)) (c .before .before .if2 .left) _ (c .before .wide2 .ensures)
+shared-slice-read-link-or c = head-within _ _ _ _ (start (search) .pre .0) (start (search) .pre .1) (omega (arith, else1 (search) .if1 .left, after-total (search) .total .ensures, after-wide (search) .wide .ensures)) (c .before .before .if2 .left) _ (c .before .wide2 .ensures)
 
 link-or-requires : tie.Need-link-or-requires
 link-or-requires c κs = search needs
 
 returns-3 : tie.Need-returns-3
-returns-3 c = operand-first _ _ _ _ (c .before .before .before .before .before .before .before .before .pre .0) (c .before .before .before .before .before .before .before .before .pre .1) (omega (arith, c .before .before .before .before .if1 .left, c .before .before .before .before .before .total .ensures, c .before .before .before .before .before .before .wide .ensures)) (c .before .before .before .if2 .left) _ (c .before .before .wide2 .ensures) _ (c .link-or .ensures)
+returns-3 c = operand-first _ _ _ _ (start (search) .pre .0) (start (search) .pre .1) (omega (arith, else1 (search) .if1 .left, after-total (search) .total .ensures, after-wide (search) .wide .ensures)) (else2 (search) .if2 .left) _ (c .before .before .wide2 .ensures) _ (c .link-or .ensures)
 
 pub operand-spec : {M : Type 1} → statement M
 operand-spec =

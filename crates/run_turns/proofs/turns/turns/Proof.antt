@@ -22,95 +22,177 @@ abbrev μ-loop : tie.MeasureT-loop
 μ-loop c sheet links₀ axis₀ times₀ marks₀ positions₀ accums₀ trace₀ room n₀ links axis times marks positions accums trace n =
     room - n
 
+-- The places that the answers look back to: `search` finds each by its type.
+abbrev start : tie.Start Inv-loop μ-loop → tie.Start Inv-loop μ-loop
+start x = x
+
+abbrev at-loop : tie.At-loop Inv-loop μ-loop → tie.At-loop Inv-loop μ-loop
+at-loop x = x
+
+abbrev in-loop : tie.In-loop Inv-loop μ-loop → tie.In-loop Inv-loop μ-loop
+in-loop x = x
+
+abbrev after-loop : tie.After-loop Inv-loop μ-loop → tie.After-loop Inv-loop μ-loop
+after-loop x = x
+
+abbrev after-stretch : tie.After-stretch Inv-loop μ-loop → tie.After-stretch Inv-loop μ-loop
+after-stretch x = x
+
+abbrev after-enum-told2 : tie.After-enum-told2 Inv-loop μ-loop → tie.After-enum-told2 Inv-loop μ-loop
+after-enum-told2 x = x
+
+abbrev after-place-now : tie.After-place-now Inv-loop μ-loop → tie.After-place-now Inv-loop μ-loop
+after-place-now x = x
+
+abbrev after-record-of : tie.After-record-of Inv-loop μ-loop → tie.After-record-of Inv-loop μ-loop
+after-record-of x = x
+
+abbrev after-is-end : tie.After-is-end Inv-loop μ-loop → tie.After-is-end Inv-loop μ-loop
+after-is-end x = x
+
+abbrev else1 : tie.Else1 Inv-loop μ-loop → tie.Else1 Inv-loop μ-loop
+else1 x = x
+
+abbrev after-time-of : tie.After-time-of Inv-loop μ-loop → tie.After-time-of Inv-loop μ-loop
+after-time-of x = x
+
+abbrev after-perform-apart : tie.After-perform-apart Inv-loop μ-loop → tie.After-perform-apart Inv-loop μ-loop
+after-perform-apart x = x
+
+abbrev after-verdict-of : tie.After-verdict-of Inv-loop μ-loop → tie.After-verdict-of Inv-loop μ-loop
+after-verdict-of x = x
+
+abbrev after-enum-told3 : tie.After-enum-told3 Inv-loop μ-loop → tie.After-enum-told3 Inv-loop μ-loop
+after-enum-told3 x = x
+
+abbrev after-next-of : tie.After-next-of Inv-loop μ-loop → tie.After-next-of Inv-loop μ-loop
+after-next-of x = x
+
+abbrev after-move-on : tie.After-move-on Inv-loop μ-loop → tie.After-move-on Inv-loop μ-loop
+after-move-on x = x
+
+abbrev after-place-now2 : tie.After-place-now2 Inv-loop μ-loop → tie.After-place-now2 Inv-loop μ-loop
+after-place-now2 x = x
+
+abbrev after-record-of2 : tie.After-record-of2 Inv-loop μ-loop → tie.After-record-of2 Inv-loop μ-loop
+after-record-of2 x = x
+
+abbrev loop-from-stretch : tie.After-stretch Inv-loop μ-loop → tie.At-loop Inv-loop μ-loop
+loop-from-stretch x = x .before .before .before .before .before .before .before .before .before
+
+abbrev loop-from-time-of : tie.After-time-of Inv-loop μ-loop → tie.At-loop Inv-loop μ-loop
+loop-from-time-of x = x .before .before .before .before .before .before .before .before .before .before .before .before .before .before .before .before .before .before .before .before .before .before .before .before .before .before .before .before .before .before
+
+abbrev in-loop-from-time-of : tie.After-time-of Inv-loop μ-loop → tie.In-loop Inv-loop μ-loop
+in-loop-from-time-of x = x .before .before .before .before .before .before .before .before .before .before .before .before .before .before .before .before .before .before .before .before .before .before .before .before .before .before .before .before .before
+
+abbrev stretch-from-time-of : tie.After-time-of Inv-loop μ-loop → tie.After-stretch Inv-loop μ-loop
+stretch-from-time-of x = x .before .before .before .before .before .before .before .before .before .before .before .before .before .before .before .before .before .before .before .before .before
+
+abbrev enum-told2-from-time-of : tie.After-time-of Inv-loop μ-loop → tie.After-enum-told2 Inv-loop μ-loop
+enum-told2-from-time-of x = x .before .before .before .before .before .before .before .before
+
+abbrev place-now-from-time-of : tie.After-time-of Inv-loop μ-loop → tie.After-place-now Inv-loop μ-loop
+place-now-from-time-of x = x .before .before .before .before .before .before
+
+abbrev record-of-from-time-of : tie.After-time-of Inv-loop μ-loop → tie.After-record-of Inv-loop μ-loop
+record-of-from-time-of x = x .before .before .before .before
+
+abbrev is-end-from-time-of : tie.After-time-of Inv-loop μ-loop → tie.After-is-end Inv-loop μ-loop
+is-end-from-time-of x = x .before .before .before
+
+abbrev else1-from-time-of : tie.After-time-of Inv-loop μ-loop → tie.Else1 Inv-loop μ-loop
+else1-from-time-of x = x .before .before
+
 loop-holds : tie.Need-loop-holds Inv-loop μ-loop
-loop-holds c = turning-start _ _ _ _ _ _ (c .before .before .before .before .before .before .before .pre .0) (c .before .before .before .before .before .before .before .pre .1) (omega arith)
+loop-holds c = turning-start _ _ _ _ _ _ (start (search) .pre .0) (start (search) .pre .1) (omega arith)
 
 stretch-requires : tie.Need-stretch-requires Inv-loop μ-loop
-stretch-requires c κs = ((c .before .before .before .before .before .before .before .before .loop .inv) .stands, (omega (arith, (c .before .before .before .before .before .before .before .before .loop .inv) .size, (c .before .before .before .before .before .before .before .before .loop .inv) .short), omega (arith, (c .before .before .before .before .before .before .before .before .loop .inv) .few, (c .before .before .before .before .before .before .before .before .loop .inv) .room-is, (c .before .before .before .before .before .before .before .before .loop .inv) .size)))
+stretch-requires c κs = ((at-loop (search) .loop .inv) .stands, (omega (arith, (at-loop (search) .loop .inv) .size, (at-loop (search) .loop .inv) .short), omega (arith, (at-loop (search) .loop .inv) .few, (at-loop (search) .loop .inv) .room-is, (at-loop (search) .loop .inv) .size)))
 
 enum-told : tie.Need-enum-told Inv-loop μ-loop
 enum-told c = search needs
 
 loop-less : tie.Need-loop-less Inv-loop μ-loop
-loop-less c = omega (arith, c .before .before .before .before .before .before .before .before .before .before .before .before .before .before .before .before .before .before .before .before .before .loop-test .taken, (c .before .before .before .before .before .before .before .before .before .before .before .before .before .stretch .ensures) .full (ap isFull (c .enum-told .given .1)), (c .before .before .before .before .before .before .before .before .before .before .before .before .before .before .before .before .before .before .before .before .before .before .loop .inv) .room-is, (c .before .before .before .before .before .before .before .before .before .before .before .before .before .before .before .before .before .before .before .before .before .before .loop .inv) .size)
+loop-less c = omega (arith, in-loop (search) .loop-test .taken, (after-stretch (search) .stretch .ensures) .full (ap isFull (c .enum-told .given .1)), (at-loop (search) .loop .inv) .room-is, (at-loop (search) .loop .inv) .size)
 
 loop-again : tie.Need-loop-again Inv-loop μ-loop
-loop-again c = paused-on _ _ _ _ _ _ _ _ _ (c .before .before .before .before .before .before .before .before .before .before .before .before .before .before .before .before .before .before .before .before .before .before .loop .inv) _ _ _ (c .before .before .before .before .before .before .before .before .before .before .before .before .before .stretch .ensures) (ap (λ (q : Pause). isFull q || isDue q) (c .enum-told .given .1))
+loop-again c = paused-on _ _ _ _ _ _ _ _ _ (at-loop (search) .loop .inv) _ _ _ (after-stretch (search) .stretch .ensures) (ap (λ (q : Pause). isFull q || isDue q) (c .enum-told .given .1))
 
 enum-known-pause : tie.Need-enum-known-pause Inv-loop μ-loop
 enum-known-pause c = search needs
 
 count-requires : tie.Need-count-requires Inv-loop μ-loop
-count-requires c κs = few-lines _ _ _ _ _ _ _ _ _ (c .before .before .before .before .before .before .before .before .before .before .before .before .before .before .before .before .before .before .before .before .before .before .before .loop .inv) _ _ _ (c .before .before .before .before .before .before .before .before .before .before .before .before .before .before .stretch .ensures)
+count-requires c κs = few-lines _ _ _ _ _ _ _ _ _ (at-loop (search) .loop .inv) _ _ _ (after-stretch (search) .stretch .ensures)
 
 same-length : tie.Need-same-length Inv-loop μ-loop
-same-length c = (c .before .before .before .before .before .before .before .before .before .before .before .before .before .before .before .stretch .kept .1 .1 .0) ∙ same-lengths _ _ _ _ ((c .before .before .before .before .before .before .before .before .before .before .before .before .before .before .before .before .before .before .before .before .before .before .before .before .loop .inv) .begun) ((c .before .before .before .before .before .before .before .before .before .before .before .before .before .before .before .before .before .before .before .before .before .before .before .before .loop .inv) .stands) .0
+same-length c = (after-stretch (search) .stretch .kept .1 .1 .0) ∙ same-lengths _ _ _ _ ((at-loop (search) .loop .inv) .begun) ((at-loop (search) .loop .inv) .stands) .0
 
 same-length-2 : tie.Need-same-length-2 Inv-loop μ-loop
-same-length-2 c = (c .before .before .before .before .before .before .before .before .before .before .before .before .before .before .before .stretch .kept .1 .1 .1 .0) ∙ same-lengths _ _ _ _ ((c .before .before .before .before .before .before .before .before .before .before .before .before .before .before .before .before .before .before .before .before .before .before .before .before .loop .inv) .begun) ((c .before .before .before .before .before .before .before .before .before .before .before .before .before .before .before .before .before .before .before .before .before .before .before .before .loop .inv) .stands) .1
+same-length-2 c = (after-stretch (search) .stretch .kept .1 .1 .1 .0) ∙ same-lengths _ _ _ _ ((at-loop (search) .loop .inv) .begun) ((at-loop (search) .loop .inv) .stands) .1
 
 same-length-3 : tie.Need-same-length-3 Inv-loop μ-loop
-same-length-3 c = (c .before .before .before .before .before .before .before .before .before .before .before .before .before .before .before .stretch .kept .1 .1 .1 .1 .0) ∙ same-lengths _ _ _ _ ((c .before .before .before .before .before .before .before .before .before .before .before .before .before .before .before .before .before .before .before .before .before .before .before .before .loop .inv) .begun) ((c .before .before .before .before .before .before .before .before .before .before .before .before .before .before .before .before .before .before .before .before .before .before .before .before .loop .inv) .stands) .2
+same-length-3 c = (after-stretch (search) .stretch .kept .1 .1 .1 .1 .0) ∙ same-lengths _ _ _ _ ((at-loop (search) .loop .inv) .begun) ((at-loop (search) .loop .inv) .stands) .2
 
 same-length-4 : tie.Need-same-length-4 Inv-loop μ-loop
-same-length-4 c = same-lengths _ _ _ _ ((c .before .before .before .before .before .before .before .before .before .before .before .before .before .before .before .before .before .before .before .before .before .before .before .before .loop .inv) .begun) ((c .before .before .before .before .before .before .before .before .before .before .before .before .before .before .before .before .before .before .before .before .before .before .before .before .loop .inv) .stands) .3
+same-length-4 c = same-lengths _ _ _ _ ((at-loop (search) .loop .inv) .begun) ((at-loop (search) .loop .inv) .stands) .3
 
 same-length-5 : tie.Need-same-length-5 Inv-loop μ-loop
-same-length-5 c = (c .before .before .before .before .before .before .before .before .before .before .before .before .before .before .before .stretch .kept .1 .1 .1 .1 .1 .1 .0) ∙ same-lengths _ _ _ _ ((c .before .before .before .before .before .before .before .before .before .before .before .before .before .before .before .before .before .before .before .before .before .before .before .before .loop .inv) .begun) ((c .before .before .before .before .before .before .before .before .before .before .before .before .before .before .before .before .before .before .before .before .before .before .before .before .loop .inv) .stands) .4
+same-length-5 c = (after-stretch (search) .stretch .kept .1 .1 .1 .1 .1 .1 .0) ∙ same-lengths _ _ _ _ ((at-loop (search) .loop .inv) .begun) ((at-loop (search) .loop .inv) .stands) .4
 
 same-length-6 : tie.Need-same-length-6 Inv-loop μ-loop
-same-length-6 c = (c .before .before .before .before .before .before .before .before .before .before .before .before .before .before .before .stretch .kept .1 .1 .1 .1 .1 .1 .1 .0) ∙ same-lengths _ _ _ _ ((c .before .before .before .before .before .before .before .before .before .before .before .before .before .before .before .before .before .before .before .before .before .before .before .before .loop .inv) .begun) ((c .before .before .before .before .before .before .before .before .before .before .before .before .before .before .before .before .before .before .before .before .before .before .before .before .loop .inv) .stands) .5
+same-length-6 c = (after-stretch (search) .stretch .kept .1 .1 .1 .1 .1 .1 .1 .0) ∙ same-lengths _ _ _ _ ((at-loop (search) .loop .inv) .begun) ((at-loop (search) .loop .inv) .stands) .5
 
 same-length-7 : tie.Need-same-length-7 Inv-loop μ-loop
-same-length-7 c = (c .before .before .before .before .before .before .before .before .before .before .before .before .before .before .before .stretch .kept .1 .1 .1 .1 .1 .1 .1 .1 .0) ∙ (c .before .before .before .before .before .before .before .before .before .before .before .before .before .before .before .before .before .before .before .before .before .before .before .before .loop .inv) .size
+same-length-7 c = (after-stretch (search) .stretch .kept .1 .1 .1 .1 .1 .1 .1 .1 .0) ∙ (at-loop (search) .loop .inv) .size
 
 returns : tie.Need-returns Inv-loop μ-loop
-returns c = paused-off _ _ _ _ _ _ _ _ _ (c .before .before .before .before .before .before .before .before .before .before .before .before .before .before .before .before .before .before .before .before .before .before .before .before .loop .inv) _ _ _ (c .before .before .before .before .before .before .before .before .before .before .before .before .before .before .before .stretch .ensures) _ (c .count .ensures) _ (c .before .before .pause .given .1)
+returns c = paused-off _ _ _ _ _ _ _ _ _ (at-loop (search) .loop .inv) _ _ _ (after-stretch (search) .stretch .ensures) _ (c .count .ensures) _ (c .before .before .pause .given .1)
 
 enum-told-2 : tie.Need-enum-told-2 Inv-loop μ-loop
 enum-told-2 c = search needs
 
 place-now-requires : tie.Need-place-now-requires Inv-loop μ-loop
-place-now-requires c κs = its-judged _ _ _ ((due-on _ _ _ _ _ _ _ _ _ (c .before .before .before .before .before .before .before .before .before .before .before .before .before .before .before .before .before .before .before .before .before .before .before .loop .inv) _ _ _ (c .before .before .before .before .before .before .before .before .before .before .before .before .before .before .stretch .ensures) (ap isDue (c .before .enum-told2 .given .1))) .stands)
+place-now-requires c κs = its-judged _ _ _ ((due-on _ _ _ _ _ _ _ _ _ (at-loop (search) .loop .inv) _ _ _ (after-stretch (search) .stretch .ensures) (ap isDue (c .before .enum-told2 .given .1))) .stands)
 
 record-of-requires : tie.Need-record-of-requires Inv-loop μ-loop
-record-of-requires c κs = in-positions _ _ _ ((due-on _ _ _ _ _ _ _ _ _ (c .before .before .before .before .before .before .before .before .before .before .before .before .before .before .before .before .before .before .before .before .before .before .before .before .before .loop .inv) _ _ _ (c .before .before .before .before .before .before .before .before .before .before .before .before .before .before .before .before .stretch .ensures) (ap isDue (c .before .before .before .enum-told2 .given .1))) .stands) _ (c .before .place-now .ensures)
+record-of-requires c κs = in-positions _ _ _ ((due-on _ _ _ _ _ _ _ _ _ (loop-from-stretch (search) .loop .inv) _ _ _ (after-stretch (search) .stretch .ensures) (ap isDue (after-enum-told2 (search) .enum-told2 .given .1))) .stands) _ (c .before .place-now .ensures)
 
 is-end-requires : tie.Need-is-end-requires Inv-loop μ-loop
 is-end-requires c κs = search needs
 
 count-requires-2 : tie.Need-count-requires-2 Inv-loop μ-loop
-count-requires-2 c κs = few-lines _ _ _ _ _ _ _ _ _ (c .before .before .before .before .before .before .before .before .before .before .before .before .before .before .before .before .before .before .before .before .before .before .before .before .before .before .before .before .loop .inv) _ _ _ (c .before .before .before .before .before .before .before .before .before .before .before .before .before .before .before .before .before .before .before .stretch .ensures)
+count-requires-2 c κs = few-lines _ _ _ _ _ _ _ _ _ (loop-from-stretch (search) .loop .inv) _ _ _ (after-stretch (search) .stretch .ensures)
 
 same-length-8 : tie.Need-same-length-8 Inv-loop μ-loop
-same-length-8 c = (c .before .before .before .before .before .before .before .before .before .before .before .before .before .before .before .before .before .before .before .before .stretch .kept .1 .1 .0) ∙ same-lengths _ _ _ _ ((c .before .before .before .before .before .before .before .before .before .before .before .before .before .before .before .before .before .before .before .before .before .before .before .before .before .before .before .before .before .loop .inv) .begun) ((c .before .before .before .before .before .before .before .before .before .before .before .before .before .before .before .before .before .before .before .before .before .before .before .before .before .before .before .before .before .loop .inv) .stands) .0
+same-length-8 c = (after-stretch (search) .stretch .kept .1 .1 .0) ∙ same-lengths _ _ _ _ ((loop-from-stretch (search) .loop .inv) .begun) ((loop-from-stretch (search) .loop .inv) .stands) .0
 
 same-length-9 : tie.Need-same-length-9 Inv-loop μ-loop
-same-length-9 c = (c .before .before .before .before .before .before .before .before .before .before .before .before .before .before .before .before .before .before .before .before .stretch .kept .1 .1 .1 .0) ∙ same-lengths _ _ _ _ ((c .before .before .before .before .before .before .before .before .before .before .before .before .before .before .before .before .before .before .before .before .before .before .before .before .before .before .before .before .before .loop .inv) .begun) ((c .before .before .before .before .before .before .before .before .before .before .before .before .before .before .before .before .before .before .before .before .before .before .before .before .before .before .before .before .before .loop .inv) .stands) .1
+same-length-9 c = (after-stretch (search) .stretch .kept .1 .1 .1 .0) ∙ same-lengths _ _ _ _ ((loop-from-stretch (search) .loop .inv) .begun) ((loop-from-stretch (search) .loop .inv) .stands) .1
 
 same-length-10 : tie.Need-same-length-10 Inv-loop μ-loop
-same-length-10 c = (c .before .before .before .before .before .before .before .before .before .before .before .before .before .before .before .before .before .before .before .before .stretch .kept .1 .1 .1 .1 .0) ∙ same-lengths _ _ _ _ ((c .before .before .before .before .before .before .before .before .before .before .before .before .before .before .before .before .before .before .before .before .before .before .before .before .before .before .before .before .before .loop .inv) .begun) ((c .before .before .before .before .before .before .before .before .before .before .before .before .before .before .before .before .before .before .before .before .before .before .before .before .before .before .before .before .before .loop .inv) .stands) .2
+same-length-10 c = (after-stretch (search) .stretch .kept .1 .1 .1 .1 .0) ∙ same-lengths _ _ _ _ ((loop-from-stretch (search) .loop .inv) .begun) ((loop-from-stretch (search) .loop .inv) .stands) .2
 
 same-length-11 : tie.Need-same-length-11 Inv-loop μ-loop
-same-length-11 c = same-lengths _ _ _ _ ((c .before .before .before .before .before .before .before .before .before .before .before .before .before .before .before .before .before .before .before .before .before .before .before .before .before .before .before .before .before .loop .inv) .begun) ((c .before .before .before .before .before .before .before .before .before .before .before .before .before .before .before .before .before .before .before .before .before .before .before .before .before .before .before .before .before .loop .inv) .stands) .3
+same-length-11 c = same-lengths _ _ _ _ ((loop-from-stretch (search) .loop .inv) .begun) ((loop-from-stretch (search) .loop .inv) .stands) .3
 
 same-length-12 : tie.Need-same-length-12 Inv-loop μ-loop
-same-length-12 c = (c .before .before .before .before .before .before .before .before .before .before .before .before .before .before .before .before .before .before .before .before .stretch .kept .1 .1 .1 .1 .1 .1 .0) ∙ same-lengths _ _ _ _ ((c .before .before .before .before .before .before .before .before .before .before .before .before .before .before .before .before .before .before .before .before .before .before .before .before .before .before .before .before .before .loop .inv) .begun) ((c .before .before .before .before .before .before .before .before .before .before .before .before .before .before .before .before .before .before .before .before .before .before .before .before .before .before .before .before .before .loop .inv) .stands) .4
+same-length-12 c = (after-stretch (search) .stretch .kept .1 .1 .1 .1 .1 .1 .0) ∙ same-lengths _ _ _ _ ((loop-from-stretch (search) .loop .inv) .begun) ((loop-from-stretch (search) .loop .inv) .stands) .4
 
 same-length-13 : tie.Need-same-length-13 Inv-loop μ-loop
-same-length-13 c = (c .before .before .before .before .before .before .before .before .before .before .before .before .before .before .before .before .before .before .before .before .stretch .kept .1 .1 .1 .1 .1 .1 .1 .0) ∙ same-lengths _ _ _ _ ((c .before .before .before .before .before .before .before .before .before .before .before .before .before .before .before .before .before .before .before .before .before .before .before .before .before .before .before .before .before .loop .inv) .begun) ((c .before .before .before .before .before .before .before .before .before .before .before .before .before .before .before .before .before .before .before .before .before .before .before .before .before .before .before .before .before .loop .inv) .stands) .5
+same-length-13 c = (after-stretch (search) .stretch .kept .1 .1 .1 .1 .1 .1 .1 .0) ∙ same-lengths _ _ _ _ ((loop-from-stretch (search) .loop .inv) .begun) ((loop-from-stretch (search) .loop .inv) .stands) .5
 
 same-length-14 : tie.Need-same-length-14 Inv-loop μ-loop
-same-length-14 c = (c .before .before .before .before .before .before .before .before .before .before .before .before .before .before .before .before .before .before .before .before .stretch .kept .1 .1 .1 .1 .1 .1 .1 .1 .0) ∙ (c .before .before .before .before .before .before .before .before .before .before .before .before .before .before .before .before .before .before .before .before .before .before .before .before .before .before .before .before .before .loop .inv) .size
+same-length-14 c = (after-stretch (search) .stretch .kept .1 .1 .1 .1 .1 .1 .1 .1 .0) ∙ (loop-from-stretch (search) .loop .inv) .size
 
 returns-2 : tie.Need-returns-2 Inv-loop μ-loop
-returns-2 c = in-finished _ _ _ _ _ _ _ _ _ (due-on _ _ _ _ _ _ _ _ _ (c .before .before .before .before .before .before .before .before .before .before .before .before .before .before .before .before .before .before .before .before .before .before .before .before .before .before .before .before .before .loop .inv) _ _ _ (c .before .before .before .before .before .before .before .before .before .before .before .before .before .before .before .before .before .before .before .before .stretch .ensures) (ap isDue (c .before .before .before .before .before .before .before .enum-told2 .given .1))) (due-room _ _ _ _ _ _ _ _ _ (c .before .before .before .before .before .before .before .before .before .before .before .before .before .before .before .before .before .before .before .before .before .before .before .before .before .before .before .before .before .loop .inv) _ _ _ (c .before .before .before .before .before .before .before .before .before .before .before .before .before .before .before .before .before .before .before .before .stretch .ensures) (ap isDue (c .before .before .before .before .before .before .before .enum-told2 .given .1))) _ (c .count2 .ensures) (sym (due-ends _ _ _ _ _ _ _ _ _ (c .before .before .before .before .before .before .before .before .before .before .before .before .before .before .before .before .before .before .before .before .before .before .before .before .before .before .before .before .before .loop .inv) _ _ _ (c .before .before .before .before .before .before .before .before .before .before .before .before .before .before .before .before .before .before .before .before .stretch .ensures) (ap isDue (c .before .before .before .before .before .before .before .enum-told2 .given .1)) _ _ (c .before .before .before .before .before .place-now .ensures) (c .before .before .before .record-of .ensures) _ (c .before .before .is-end .ensures)) ∙ c .before .if1 .taken)
+returns-2 c = in-finished _ _ _ _ _ _ _ _ _ (due-on _ _ _ _ _ _ _ _ _ (loop-from-stretch (search) .loop .inv) _ _ _ (after-stretch (search) .stretch .ensures) (ap isDue (after-enum-told2 (search) .enum-told2 .given .1))) (due-room _ _ _ _ _ _ _ _ _ (loop-from-stretch (search) .loop .inv) _ _ _ (after-stretch (search) .stretch .ensures) (ap isDue (after-enum-told2 (search) .enum-told2 .given .1))) _ (c .count2 .ensures) (sym (due-ends _ _ _ _ _ _ _ _ _ (loop-from-stretch (search) .loop .inv) _ _ _ (after-stretch (search) .stretch .ensures) (ap isDue (after-enum-told2 (search) .enum-told2 .given .1)) _ _ (after-place-now (search) .place-now .ensures) (after-record-of (search) .record-of .ensures) _ (c .before .before .is-end .ensures)) ∙ c .before .if1 .taken)
 
 time-of-requires : tie.Need-time-of-requires Inv-loop μ-loop
-time-of-requires c κs = in-times _ _ _ ((due-on _ _ _ _ _ _ _ _ _ (c .before .before .before .before .before .before .before .before .before .before .before .before .before .before .before .before .before .before .before .before .before .before .before .before .before .before .before .before .before .loop .inv) _ _ _ (c .before .before .before .before .before .before .before .before .before .before .before .before .before .before .before .before .before .before .before .before .stretch .ensures) (ap isDue (c .before .before .before .before .before .before .before .enum-told2 .given .1))) .stands) _ (c .before .before .before .before .before .place-now .ensures)
+time-of-requires c κs = in-times _ _ _ ((due-on _ _ _ _ _ _ _ _ _ (loop-from-stretch (search) .loop .inv) _ _ _ (after-stretch (search) .stretch .ensures) (ap isDue (after-enum-told2 (search) .enum-told2 .given .1))) .stands) _ (after-place-now (search) .place-now .ensures)
 
 perform-apart-requires : tie.Need-perform-apart-requires Inv-loop μ-loop
-perform-apart-requires c κs = (due-call _ _ _ _ _ _ _ _ _ (c .before .before .before .before .before .before .before .before .before .before .before .before .before .before .before .before .before .before .before .before .before .before .before .before .before .before .before .before .before .before .before .before .before .before .loop .inv) _ _ _ (c .before .before .before .before .before .before .before .before .before .before .before .before .before .before .before .before .before .before .before .before .before .before .before .before .before .stretch .ensures) (ap isDue (c .before .before .before .before .before .before .before .before .before .before .before .before .enum-told2 .given .1)) _ _ (c .before .before .before .before .before .before .before .before .before .before .place-now .ensures) (c .before .before .before .before .before .before .before .before .record-of .ensures), (ready _ _ _ ((due-on _ _ _ _ _ _ _ _ _ (c .before .before .before .before .before .before .before .before .before .before .before .before .before .before .before .before .before .before .before .before .before .before .before .before .before .before .before .before .before .before .before .before .before .before .loop .inv) _ _ _ (c .before .before .before .before .before .before .before .before .before .before .before .before .before .before .before .before .before .before .before .before .before .before .before .before .before .stretch .ensures) (ap isDue (c .before .before .before .before .before .before .before .before .before .before .before .before .enum-told2 .given .1))) .stands), due-apart _ _ _ _ _ _ _ _ _ (c .before .before .before .before .before .before .before .before .before .before .before .before .before .before .before .before .before .before .before .before .before .before .before .before .before .before .before .before .before .before .before .before .before .before .loop .inv) _ _ _ (c .before .before .before .before .before .before .before .before .before .before .before .before .before .before .before .before .before .before .before .before .before .before .before .before .before .stretch .ensures) (ap isDue (c .before .before .before .before .before .before .before .before .before .before .before .before .enum-told2 .given .1)) _ _ (c .before .before .before .before .before .before .before .before .before .before .place-now .ensures) (c .before .before .before .before .before .before .before .before .record-of .ensures)))
+perform-apart-requires c κs = (due-call _ _ _ _ _ _ _ _ _ (loop-from-time-of (search) .loop .inv) _ _ _ (stretch-from-time-of (search) .stretch .ensures) (ap isDue (after-enum-told2 (search) .enum-told2 .given .1)) _ _ (after-place-now (search) .place-now .ensures) (after-record-of (search) .record-of .ensures), (ready _ _ _ ((due-on _ _ _ _ _ _ _ _ _ (loop-from-time-of (search) .loop .inv) _ _ _ (stretch-from-time-of (search) .stretch .ensures) (ap isDue (after-enum-told2 (search) .enum-told2 .given .1))) .stands), due-apart _ _ _ _ _ _ _ _ _ (loop-from-time-of (search) .loop .inv) _ _ _ (stretch-from-time-of (search) .stretch .ensures) (ap isDue (after-enum-told2 (search) .enum-told2 .given .1)) _ _ (after-place-now (search) .place-now .ensures) (after-record-of (search) .record-of .ensures)))
 
 verdict-of-requires : tie.Need-verdict-of-requires Inv-loop μ-loop
 verdict-of-requires c κs = search needs
@@ -119,115 +201,115 @@ enum-known-q : tie.Need-enum-known-q Inv-loop μ-loop
 enum-known-q c = search needs
 
 count-requires-3 : tie.Need-count-requires-3 Inv-loop μ-loop
-count-requires-3 c κs = few-lines _ _ _ _ _ _ _ _ _ (c .before .before .before .before .before .before .before .before .before .before .before .before .before .before .before .before .before .before .before .before .before .before .before .before .before .before .before .before .before .before .before .before .before .before .before .before .before .before .before .before .before .before .before .before .before .before .before .loop .inv) _ _ _ (c .before .before .before .before .before .before .before .before .before .before .before .before .before .before .before .before .before .before .before .before .before .before .before .before .before .before .before .before .before .before .before .before .before .before .before .before .before .before .stretch .ensures)
+count-requires-3 c κs = few-lines _ _ _ _ _ _ _ _ _ (loop-from-time-of (search) .loop .inv) _ _ _ (stretch-from-time-of (search) .stretch .ensures)
 
 same-length-15 : tie.Need-same-length-15 Inv-loop μ-loop
-same-length-15 c = (c .before .before .before .before .before .before .before .before .before .before .before .before .before .perform-apart .kept .1 .1 .1 .1 .0) ∙ (c .before .before .before .before .before .before .before .before .before .before .before .before .before .before .before .before .before .before .before .before .before .before .before .before .before .before .before .before .before .before .before .before .before .before .before .before .before .before .before .stretch .kept .1 .1 .0) ∙ same-lengths _ _ _ _ ((c .before .before .before .before .before .before .before .before .before .before .before .before .before .before .before .before .before .before .before .before .before .before .before .before .before .before .before .before .before .before .before .before .before .before .before .before .before .before .before .before .before .before .before .before .before .before .before .before .loop .inv) .begun) ((c .before .before .before .before .before .before .before .before .before .before .before .before .before .before .before .before .before .before .before .before .before .before .before .before .before .before .before .before .before .before .before .before .before .before .before .before .before .before .before .before .before .before .before .before .before .before .before .before .loop .inv) .stands) .0
+same-length-15 c = (after-perform-apart (search) .perform-apart .kept .1 .1 .1 .1 .0) ∙ (stretch-from-time-of (search) .stretch .kept .1 .1 .0) ∙ same-lengths _ _ _ _ ((loop-from-time-of (search) .loop .inv) .begun) ((loop-from-time-of (search) .loop .inv) .stands) .0
 
 same-length-16 : tie.Need-same-length-16 Inv-loop μ-loop
-same-length-16 c = (c .before .before .before .before .before .before .before .before .before .before .before .before .before .perform-apart .kept .1 .1 .1 .1 .1 .0) ∙ (c .before .before .before .before .before .before .before .before .before .before .before .before .before .before .before .before .before .before .before .before .before .before .before .before .before .before .before .before .before .before .before .before .before .before .before .before .before .before .before .stretch .kept .1 .1 .1 .0) ∙ same-lengths _ _ _ _ ((c .before .before .before .before .before .before .before .before .before .before .before .before .before .before .before .before .before .before .before .before .before .before .before .before .before .before .before .before .before .before .before .before .before .before .before .before .before .before .before .before .before .before .before .before .before .before .before .before .loop .inv) .begun) ((c .before .before .before .before .before .before .before .before .before .before .before .before .before .before .before .before .before .before .before .before .before .before .before .before .before .before .before .before .before .before .before .before .before .before .before .before .before .before .before .before .before .before .before .before .before .before .before .before .loop .inv) .stands) .1
+same-length-16 c = (after-perform-apart (search) .perform-apart .kept .1 .1 .1 .1 .1 .0) ∙ (stretch-from-time-of (search) .stretch .kept .1 .1 .1 .0) ∙ same-lengths _ _ _ _ ((loop-from-time-of (search) .loop .inv) .begun) ((loop-from-time-of (search) .loop .inv) .stands) .1
 
 same-length-17 : tie.Need-same-length-17 Inv-loop μ-loop
-same-length-17 c = (c .before .before .before .before .before .before .before .before .before .before .before .before .before .perform-apart .kept .1 .1 .1 .1 .1 .1 .0) ∙ (c .before .before .before .before .before .before .before .before .before .before .before .before .before .before .before .before .before .before .before .before .before .before .before .before .before .before .before .before .before .before .before .before .before .before .before .before .before .before .before .stretch .kept .1 .1 .1 .1 .0) ∙ same-lengths _ _ _ _ ((c .before .before .before .before .before .before .before .before .before .before .before .before .before .before .before .before .before .before .before .before .before .before .before .before .before .before .before .before .before .before .before .before .before .before .before .before .before .before .before .before .before .before .before .before .before .before .before .before .loop .inv) .begun) ((c .before .before .before .before .before .before .before .before .before .before .before .before .before .before .before .before .before .before .before .before .before .before .before .before .before .before .before .before .before .before .before .before .before .before .before .before .before .before .before .before .before .before .before .before .before .before .before .before .loop .inv) .stands) .2
+same-length-17 c = (after-perform-apart (search) .perform-apart .kept .1 .1 .1 .1 .1 .1 .0) ∙ (stretch-from-time-of (search) .stretch .kept .1 .1 .1 .1 .0) ∙ same-lengths _ _ _ _ ((loop-from-time-of (search) .loop .inv) .begun) ((loop-from-time-of (search) .loop .inv) .stands) .2
 
 same-length-18 : tie.Need-same-length-18 Inv-loop μ-loop
-same-length-18 c = (c .before .before .before .before .before .before .before .before .before .before .before .before .before .perform-apart .kept .1 .1 .1 .1 .1 .1 .1 .0) ∙ same-lengths _ _ _ _ ((c .before .before .before .before .before .before .before .before .before .before .before .before .before .before .before .before .before .before .before .before .before .before .before .before .before .before .before .before .before .before .before .before .before .before .before .before .before .before .before .before .before .before .before .before .before .before .before .before .loop .inv) .begun) ((c .before .before .before .before .before .before .before .before .before .before .before .before .before .before .before .before .before .before .before .before .before .before .before .before .before .before .before .before .before .before .before .before .before .before .before .before .before .before .before .before .before .before .before .before .before .before .before .before .loop .inv) .stands) .3
+same-length-18 c = (after-perform-apart (search) .perform-apart .kept .1 .1 .1 .1 .1 .1 .1 .0) ∙ same-lengths _ _ _ _ ((loop-from-time-of (search) .loop .inv) .begun) ((loop-from-time-of (search) .loop .inv) .stands) .3
 
 same-length-19 : tie.Need-same-length-19 Inv-loop μ-loop
-same-length-19 c = (c .before .before .before .before .before .before .before .before .before .before .before .before .before .before .before .before .before .before .before .before .before .before .before .before .before .before .before .before .before .before .before .before .before .before .before .before .before .before .before .stretch .kept .1 .1 .1 .1 .1 .1 .0) ∙ same-lengths _ _ _ _ ((c .before .before .before .before .before .before .before .before .before .before .before .before .before .before .before .before .before .before .before .before .before .before .before .before .before .before .before .before .before .before .before .before .before .before .before .before .before .before .before .before .before .before .before .before .before .before .before .before .loop .inv) .begun) ((c .before .before .before .before .before .before .before .before .before .before .before .before .before .before .before .before .before .before .before .before .before .before .before .before .before .before .before .before .before .before .before .before .before .before .before .before .before .before .before .before .before .before .before .before .before .before .before .before .loop .inv) .stands) .4
+same-length-19 c = (stretch-from-time-of (search) .stretch .kept .1 .1 .1 .1 .1 .1 .0) ∙ same-lengths _ _ _ _ ((loop-from-time-of (search) .loop .inv) .begun) ((loop-from-time-of (search) .loop .inv) .stands) .4
 
 same-length-20 : tie.Need-same-length-20 Inv-loop μ-loop
-same-length-20 c = (c .before .before .before .before .before .before .before .before .before .before .before .before .before .before .before .before .before .before .before .before .before .before .before .before .before .before .before .before .before .before .before .before .before .before .before .before .before .before .before .stretch .kept .1 .1 .1 .1 .1 .1 .1 .0) ∙ same-lengths _ _ _ _ ((c .before .before .before .before .before .before .before .before .before .before .before .before .before .before .before .before .before .before .before .before .before .before .before .before .before .before .before .before .before .before .before .before .before .before .before .before .before .before .before .before .before .before .before .before .before .before .before .before .loop .inv) .begun) ((c .before .before .before .before .before .before .before .before .before .before .before .before .before .before .before .before .before .before .before .before .before .before .before .before .before .before .before .before .before .before .before .before .before .before .before .before .before .before .before .before .before .before .before .before .before .before .before .before .loop .inv) .stands) .5
+same-length-20 c = (stretch-from-time-of (search) .stretch .kept .1 .1 .1 .1 .1 .1 .1 .0) ∙ same-lengths _ _ _ _ ((loop-from-time-of (search) .loop .inv) .begun) ((loop-from-time-of (search) .loop .inv) .stands) .5
 
 same-length-21 : tie.Need-same-length-21 Inv-loop μ-loop
-same-length-21 c = (c .before .before .before .before .before .before .before .before .before .before .before .before .before .before .before .before .before .before .before .before .before .before .before .before .before .before .before .before .before .before .before .before .before .before .before .before .before .before .before .stretch .kept .1 .1 .1 .1 .1 .1 .1 .1 .0) ∙ (c .before .before .before .before .before .before .before .before .before .before .before .before .before .before .before .before .before .before .before .before .before .before .before .before .before .before .before .before .before .before .before .before .before .before .before .before .before .before .before .before .before .before .before .before .before .before .before .before .loop .inv) .size
+same-length-21 c = (stretch-from-time-of (search) .stretch .kept .1 .1 .1 .1 .1 .1 .1 .1 .0) ∙ (loop-from-time-of (search) .loop .inv) .size
 
 returns-3 : tie.Need-returns-3 Inv-loop μ-loop
-returns-3 c = apart-down _ _ _ _ _ _ _ _ _ (c .before .before .before .before .before .before .before .before .before .before .before .before .before .before .before .before .before .before .before .before .before .before .before .before .before .before .before .before .before .before .before .before .before .before .before .before .before .before .before .before .before .before .before .before .before .before .before .before .loop .inv) _ _ _ (c .before .before .before .before .before .before .before .before .before .before .before .before .before .before .before .before .before .before .before .before .before .before .before .before .before .before .before .before .before .before .before .before .before .before .before .before .before .before .before .stretch .ensures) (ap isDue (c .before .before .before .before .before .before .before .before .before .before .before .before .before .before .before .before .before .before .before .before .before .before .before .before .before .before .enum-told2 .given .1)) _ _ (c .before .before .before .before .before .before .before .before .before .before .before .before .before .before .before .before .before .before .before .before .before .before .before .before .place-now .ensures) (c .before .before .before .before .before .before .before .before .before .before .before .before .before .before .before .before .before .before .before .before .before .before .record-of .ensures) (sym (due-ends _ _ _ _ _ _ _ _ _ (c .before .before .before .before .before .before .before .before .before .before .before .before .before .before .before .before .before .before .before .before .before .before .before .before .before .before .before .before .before .before .before .before .before .before .before .before .before .before .before .before .before .before .before .before .before .before .before .before .loop .inv) _ _ _ (c .before .before .before .before .before .before .before .before .before .before .before .before .before .before .before .before .before .before .before .before .before .before .before .before .before .before .before .before .before .before .before .before .before .before .before .before .before .before .before .stretch .ensures) (ap isDue (c .before .before .before .before .before .before .before .before .before .before .before .before .before .before .before .before .before .before .before .before .before .before .before .before .before .before .enum-told2 .given .1)) _ _ (c .before .before .before .before .before .before .before .before .before .before .before .before .before .before .before .before .before .before .before .before .before .before .before .before .place-now .ensures) (c .before .before .before .before .before .before .before .before .before .before .before .before .before .before .before .before .before .before .before .before .before .before .record-of .ensures) _ (c .before .before .before .before .before .before .before .before .before .before .before .before .before .before .before .before .before .before .before .before .before .is-end .ensures)) ∙ c .before .before .before .before .before .before .before .before .before .before .before .before .before .before .before .before .before .before .before .before .if1 .left) _ (c .before .before .before .before .before .before .before .before .before .before .before .before .before .before .before .before .before .before .time-of .ensures) _ (c .before .before .before .before .before .before .before .before .before .before .before .before .before .perform-apart .ensures _) _ (c .count3 .ensures) _ (sym (c .before .before .q .given .1) ∙ c .before .before .before .before .verdict-of .ensures)
+returns-3 c = apart-down _ _ _ _ _ _ _ _ _ (loop-from-time-of (search) .loop .inv) _ _ _ (stretch-from-time-of (search) .stretch .ensures) (ap isDue (enum-told2-from-time-of (search) .enum-told2 .given .1)) _ _ (after-place-now (search) .place-now .ensures) (after-record-of (search) .record-of .ensures) (sym (due-ends _ _ _ _ _ _ _ _ _ (loop-from-time-of (search) .loop .inv) _ _ _ (stretch-from-time-of (search) .stretch .ensures) (ap isDue (enum-told2-from-time-of (search) .enum-told2 .given .1)) _ _ (after-place-now (search) .place-now .ensures) (after-record-of (search) .record-of .ensures) _ (after-is-end (search) .is-end .ensures)) ∙ else1 (search) .if1 .left) _ (after-time-of (search) .time-of .ensures) _ (after-perform-apart (search) .perform-apart .ensures _) _ (c .count3 .ensures) _ (sym (c .before .before .q .given .1) ∙ after-verdict-of (search) .verdict-of .ensures)
 
 enum-told-3 : tie.Need-enum-told-3 Inv-loop μ-loop
 enum-told-3 c = search needs
 
 next-of-requires : tie.Need-next-of-requires Inv-loop μ-loop
-next-of-requires c κs = λ z. due-call _ _ _ _ _ _ _ _ _ (c .before .before .before .before .before .before .before .before .before .before .before .before .before .before .before .before .before .before .before .before .before .before .before .before .before .before .before .before .before .before .before .before .before .before .before .before .before .before .before .before .before .before .before .before .before .before .loop .inv) _ _ _ (c .before .before .before .before .before .before .before .before .before .before .before .before .before .before .before .before .before .before .before .before .before .before .before .before .before .before .before .before .before .before .before .before .before .before .before .before .before .stretch .ensures) (ap isDue (c .before .before .before .before .before .before .before .before .before .before .before .before .before .before .before .before .before .before .before .before .before .before .before .before .enum-told2 .given .1)) _ _ (c .before .before .before .before .before .before .before .before .before .before .before .before .before .before .before .before .before .before .before .before .before .before .place-now .ensures) (c .before .before .before .before .before .before .before .before .before .before .before .before .before .before .before .before .before .before .before .before .record-of .ensures) z .inside
+next-of-requires c κs = λ z. due-call _ _ _ _ _ _ _ _ _ (loop-from-time-of (search) .loop .inv) _ _ _ (stretch-from-time-of (search) .stretch .ensures) (ap isDue (after-enum-told2 (search) .enum-told2 .given .1)) _ _ (after-place-now (search) .place-now .ensures) (after-record-of (search) .record-of .ensures) z .inside
 
 mul-move-on : tie.Need-mul-move-on Inv-loop μ-loop
-mul-move-on c = omega (arith, few-lines _ _ _ _ _ _ _ _ _ (c .before .before .before .before .before .before .before .before .before .before .before .before .before .before .before .before .before .before .before .before .before .before .before .before .before .before .before .before .before .before .before .before .before .before .before .before .before .before .before .before .before .before .before .before .before .before .before .before .before .loop .inv) _ _ _ (c .before .before .before .before .before .before .before .before .before .before .before .before .before .before .before .before .before .before .before .before .before .before .before .before .before .before .before .before .before .before .before .before .before .before .before .before .before .before .before .before .stretch .ensures))
+mul-move-on c = omega (arith, few-lines _ _ _ _ _ _ _ _ _ (loop-from-time-of (search) .loop .inv) _ _ _ (stretch-from-time-of (search) .stretch .ensures))
 
 move-on-requires : tie.Need-move-on-requires Inv-loop μ-loop
-move-on-requires c κs = (in-positions _ _ _ ((due-on _ _ _ _ _ _ _ _ _ (c .before .before .before .before .before .before .before .before .before .before .before .before .before .before .before .before .before .before .before .before .before .before .before .before .before .before .before .before .before .before .before .before .before .before .before .before .before .before .before .before .before .before .before .before .before .before .before .before .before .loop .inv) _ _ _ (c .before .before .before .before .before .before .before .before .before .before .before .before .before .before .before .before .before .before .before .before .before .before .before .before .before .before .before .before .before .before .before .before .before .before .before .before .before .before .before .before .stretch .ensures) (ap isDue (c .before .before .before .before .before .before .before .before .before .before .before .before .before .before .before .before .before .before .before .before .before .before .before .before .before .before .before .enum-told2 .given .1))) .stands) _ (c .before .before .before .before .before .before .before .before .before .before .before .before .before .before .before .before .before .before .before .before .before .before .before .before .before .place-now .ensures), (number-in _ _ _ ((due-on _ _ _ _ _ _ _ _ _ (c .before .before .before .before .before .before .before .before .before .before .before .before .before .before .before .before .before .before .before .before .before .before .before .before .before .before .before .before .before .before .before .before .before .before .before .before .before .before .before .before .before .before .before .before .before .before .before .before .before .loop .inv) _ _ _ (c .before .before .before .before .before .before .before .before .before .before .before .before .before .before .before .before .before .before .before .before .before .before .before .before .before .before .before .before .before .before .before .before .before .before .before .before .before .before .before .before .stretch .ensures) (ap isDue (c .before .before .before .before .before .before .before .before .before .before .before .before .before .before .before .before .before .before .before .before .before .before .before .before .before .before .before .enum-told2 .given .1))) .stands) _ (c .before .before .before .before .before .before .before .before .before .before .before .before .before .before .before .before .before .before .before .before .before .before .before .before .before .place-now .ensures), line-fits _ _ _ _ _ _ _ _ _ (due-on _ _ _ _ _ _ _ _ _ (c .before .before .before .before .before .before .before .before .before .before .before .before .before .before .before .before .before .before .before .before .before .before .before .before .before .before .before .before .before .before .before .before .before .before .before .before .before .before .before .before .before .before .before .before .before .before .before .before .before .loop .inv) _ _ _ (c .before .before .before .before .before .before .before .before .before .before .before .before .before .before .before .before .before .before .before .before .before .before .before .before .before .before .before .before .before .before .before .before .before .before .before .before .before .before .before .before .stretch .ensures) (ap isDue (c .before .before .before .before .before .before .before .before .before .before .before .before .before .before .before .before .before .before .before .before .before .before .before .before .before .before .before .enum-told2 .given .1))) (due-room _ _ _ _ _ _ _ _ _ (c .before .before .before .before .before .before .before .before .before .before .before .before .before .before .before .before .before .before .before .before .before .before .before .before .before .before .before .before .before .before .before .before .before .before .before .before .before .before .before .before .before .before .before .before .before .before .before .before .before .loop .inv) _ _ _ (c .before .before .before .before .before .before .before .before .before .before .before .before .before .before .before .before .before .before .before .before .before .before .before .before .before .before .before .before .before .before .before .before .before .before .before .before .before .before .before .before .stretch .ensures) (ap isDue (c .before .before .before .before .before .before .before .before .before .before .before .before .before .before .before .before .before .before .before .before .before .before .before .before .before .before .before .enum-told2 .given .1)))))
+move-on-requires c κs = (in-positions _ _ _ ((due-on _ _ _ _ _ _ _ _ _ (loop-from-time-of (search) .loop .inv) _ _ _ (stretch-from-time-of (search) .stretch .ensures) (ap isDue (enum-told2-from-time-of (search) .enum-told2 .given .1))) .stands) _ (place-now-from-time-of (search) .place-now .ensures), (number-in _ _ _ ((due-on _ _ _ _ _ _ _ _ _ (loop-from-time-of (search) .loop .inv) _ _ _ (stretch-from-time-of (search) .stretch .ensures) (ap isDue (enum-told2-from-time-of (search) .enum-told2 .given .1))) .stands) _ (place-now-from-time-of (search) .place-now .ensures), line-fits _ _ _ _ _ _ _ _ _ (due-on _ _ _ _ _ _ _ _ _ (loop-from-time-of (search) .loop .inv) _ _ _ (stretch-from-time-of (search) .stretch .ensures) (ap isDue (enum-told2-from-time-of (search) .enum-told2 .given .1))) (due-room _ _ _ _ _ _ _ _ _ (loop-from-time-of (search) .loop .inv) _ _ _ (stretch-from-time-of (search) .stretch .ensures) (ap isDue (enum-told2-from-time-of (search) .enum-told2 .given .1)))))
 
 add-n : tie.Need-add-n Inv-loop μ-loop
-add-n c = omega (arith, few-lines _ _ _ _ _ _ _ _ _ (c .before .before .before .before .before .before .before .before .before .before .before .before .before .before .before .before .before .before .before .before .before .before .before .before .before .before .before .before .before .before .before .before .before .before .before .before .before .before .before .before .before .before .before .before .before .before .before .before .before .before .before .before .before .before .loop .inv) _ _ _ (c .before .before .before .before .before .before .before .before .before .before .before .before .before .before .before .before .before .before .before .before .before .before .before .before .before .before .before .before .before .before .before .before .before .before .before .before .before .before .before .before .before .before .before .before .before .stretch .ensures))
+add-n c = omega (arith, few-lines _ _ _ _ _ _ _ _ _ (loop-from-time-of (search) .loop .inv) _ _ _ (stretch-from-time-of (search) .stretch .ensures))
 
 loop-less-2 : tie.Need-loop-less-2 Inv-loop μ-loop
-loop-less-2 c = omega (arith, c .before .before .before .before .before .before .before .before .before .before .before .before .before .before .before .before .before .before .before .before .before .before .before .before .before .before .before .before .before .before .before .before .before .before .before .before .before .before .before .before .before .before .before .before .before .before .before .before .before .before .before .before .before .loop-test .taken, (c .before .before .before .before .before .before .before .before .before .before .before .before .before .before .before .before .before .before .before .before .before .before .before .before .before .before .before .before .before .before .before .before .before .before .before .before .before .before .before .before .before .before .before .before .before .stretch .ensures) .more, due-room _ _ _ _ _ _ _ _ _ (c .before .before .before .before .before .before .before .before .before .before .before .before .before .before .before .before .before .before .before .before .before .before .before .before .before .before .before .before .before .before .before .before .before .before .before .before .before .before .before .before .before .before .before .before .before .before .before .before .before .before .before .before .before .before .loop .inv) _ _ _ (c .before .before .before .before .before .before .before .before .before .before .before .before .before .before .before .before .before .before .before .before .before .before .before .before .before .before .before .before .before .before .before .before .before .before .before .before .before .before .before .before .before .before .before .before .before .stretch .ensures) (ap isDue (c .before .before .before .before .before .before .before .before .before .before .before .before .before .before .before .before .before .before .before .before .before .before .before .before .before .before .before .before .before .before .before .before .enum-told2 .given .1)))
+loop-less-2 c = omega (arith, in-loop-from-time-of (search) .loop-test .taken, (stretch-from-time-of (search) .stretch .ensures) .more, due-room _ _ _ _ _ _ _ _ _ (loop-from-time-of (search) .loop .inv) _ _ _ (stretch-from-time-of (search) .stretch .ensures) (ap isDue (enum-told2-from-time-of (search) .enum-told2 .given .1)))
 
 loop-again-2 : tie.Need-loop-again-2 Inv-loop μ-loop
-loop-again-2 c = apart-on _ _ _ _ _ _ _ _ _ (c .before .before .before .before .before .before .before .before .before .before .before .before .before .before .before .before .before .before .before .before .before .before .before .before .before .before .before .before .before .before .before .before .before .before .before .before .before .before .before .before .before .before .before .before .before .before .before .before .before .before .before .before .before .before .loop .inv) _ _ _ (c .before .before .before .before .before .before .before .before .before .before .before .before .before .before .before .before .before .before .before .before .before .before .before .before .before .before .before .before .before .before .before .before .before .before .before .before .before .before .before .before .before .before .before .before .before .stretch .ensures) (ap isDue (c .before .before .before .before .before .before .before .before .before .before .before .before .before .before .before .before .before .before .before .before .before .before .before .before .before .before .before .before .before .before .before .before .enum-told2 .given .1)) _ _ (c .before .before .before .before .before .before .before .before .before .before .before .before .before .before .before .before .before .before .before .before .before .before .before .before .before .before .before .before .before .before .place-now .ensures) (c .before .before .before .before .before .before .before .before .before .before .before .before .before .before .before .before .before .before .before .before .before .before .before .before .before .before .before .before .record-of .ensures) (sym (due-ends _ _ _ _ _ _ _ _ _ (c .before .before .before .before .before .before .before .before .before .before .before .before .before .before .before .before .before .before .before .before .before .before .before .before .before .before .before .before .before .before .before .before .before .before .before .before .before .before .before .before .before .before .before .before .before .before .before .before .before .before .before .before .before .before .loop .inv) _ _ _ (c .before .before .before .before .before .before .before .before .before .before .before .before .before .before .before .before .before .before .before .before .before .before .before .before .before .before .before .before .before .before .before .before .before .before .before .before .before .before .before .before .before .before .before .before .before .stretch .ensures) (ap isDue (c .before .before .before .before .before .before .before .before .before .before .before .before .before .before .before .before .before .before .before .before .before .before .before .before .before .before .before .before .before .before .before .before .enum-told2 .given .1)) _ _ (c .before .before .before .before .before .before .before .before .before .before .before .before .before .before .before .before .before .before .before .before .before .before .before .before .before .before .before .before .before .before .place-now .ensures) (c .before .before .before .before .before .before .before .before .before .before .before .before .before .before .before .before .before .before .before .before .before .before .before .before .before .before .before .before .record-of .ensures) _ (c .before .before .before .before .before .before .before .before .before .before .before .before .before .before .before .before .before .before .before .before .before .before .before .before .before .before .before .is-end .ensures)) ∙ c .before .before .before .before .before .before .before .before .before .before .before .before .before .before .before .before .before .before .before .before .before .before .before .before .before .before .if1 .left) _ (c .before .before .before .before .before .before .before .before .before .before .before .before .before .before .before .before .before .before .before .before .before .before .before .before .time-of .ensures) _ (c .before .before .before .before .before .before .before .before .before .before .before .before .before .before .before .before .before .before .before .perform-apart .ensures _) (sym (c .before .before .before .before .before .before .before .before .enum-told3 .given .1) ∙ c .before .before .before .before .before .before .before .before .before .before .verdict-of .ensures) _ (c .before .before .before .before .before .before .before .next-of .ensures) _ _ (c .before .before .before .before .move-on .ensures) (c .before .before .before .before .move-on .kept .1 .1 .0)
+loop-again-2 c = apart-on _ _ _ _ _ _ _ _ _ (loop-from-time-of (search) .loop .inv) _ _ _ (stretch-from-time-of (search) .stretch .ensures) (ap isDue (enum-told2-from-time-of (search) .enum-told2 .given .1)) _ _ (place-now-from-time-of (search) .place-now .ensures) (record-of-from-time-of (search) .record-of .ensures) (sym (due-ends _ _ _ _ _ _ _ _ _ (loop-from-time-of (search) .loop .inv) _ _ _ (stretch-from-time-of (search) .stretch .ensures) (ap isDue (enum-told2-from-time-of (search) .enum-told2 .given .1)) _ _ (place-now-from-time-of (search) .place-now .ensures) (record-of-from-time-of (search) .record-of .ensures) _ (is-end-from-time-of (search) .is-end .ensures)) ∙ else1-from-time-of (search) .if1 .left) _ (after-time-of (search) .time-of .ensures) _ (after-perform-apart (search) .perform-apart .ensures _) (sym (after-enum-told3 (search) .enum-told3 .given .1) ∙ after-verdict-of (search) .verdict-of .ensures) _ (after-next-of (search) .next-of .ensures) _ _ (after-move-on (search) .move-on .ensures) (after-move-on (search) .move-on .kept .1 .1 .0)
 
 place-now-requires-2 : tie.Need-place-now-requires-2 Inv-loop μ-loop
 place-now-requires-2 c κs = its-judged _ _ _ ((c .before .before .loop .inv) .stands)
 
 record-of-requires-2 : tie.Need-record-of-requires-2 Inv-loop μ-loop
-record-of-requires-2 c κs = in-positions _ _ _ ((c .before .before .before .before .loop .inv) .stands) _ (c .before .place-now2 .ensures)
+record-of-requires-2 c κs = in-positions _ _ _ ((at-loop (search) .loop .inv) .stands) _ (c .before .place-now2 .ensures)
 
 is-end-requires-2 : tie.Need-is-end-requires-2 Inv-loop μ-loop
 is-end-requires-2 c κs = search needs
 
 count-requires-4 : tie.Need-count-requires-4 Inv-loop μ-loop
-count-requires-4 c κs = most-lines _ _ _ _ _ _ _ _ _ (c .before .before .before .before .before .before .before .loop .inv)
+count-requires-4 c κs = most-lines _ _ _ _ _ _ _ _ _ (at-loop (search) .loop .inv)
 
 same-length-22 : tie.Need-same-length-22 Inv-loop μ-loop
-same-length-22 c = same-lengths _ _ _ _ ((c .before .before .before .before .before .before .before .before .loop .inv) .begun) ((c .before .before .before .before .before .before .before .before .loop .inv) .stands) .0
+same-length-22 c = same-lengths _ _ _ _ ((at-loop (search) .loop .inv) .begun) ((at-loop (search) .loop .inv) .stands) .0
 
 same-length-23 : tie.Need-same-length-23 Inv-loop μ-loop
-same-length-23 c = same-lengths _ _ _ _ ((c .before .before .before .before .before .before .before .before .loop .inv) .begun) ((c .before .before .before .before .before .before .before .before .loop .inv) .stands) .1
+same-length-23 c = same-lengths _ _ _ _ ((at-loop (search) .loop .inv) .begun) ((at-loop (search) .loop .inv) .stands) .1
 
 same-length-24 : tie.Need-same-length-24 Inv-loop μ-loop
-same-length-24 c = same-lengths _ _ _ _ ((c .before .before .before .before .before .before .before .before .loop .inv) .begun) ((c .before .before .before .before .before .before .before .before .loop .inv) .stands) .2
+same-length-24 c = same-lengths _ _ _ _ ((at-loop (search) .loop .inv) .begun) ((at-loop (search) .loop .inv) .stands) .2
 
 same-length-25 : tie.Need-same-length-25 Inv-loop μ-loop
-same-length-25 c = same-lengths _ _ _ _ ((c .before .before .before .before .before .before .before .before .loop .inv) .begun) ((c .before .before .before .before .before .before .before .before .loop .inv) .stands) .3
+same-length-25 c = same-lengths _ _ _ _ ((at-loop (search) .loop .inv) .begun) ((at-loop (search) .loop .inv) .stands) .3
 
 same-length-26 : tie.Need-same-length-26 Inv-loop μ-loop
-same-length-26 c = same-lengths _ _ _ _ ((c .before .before .before .before .before .before .before .before .loop .inv) .begun) ((c .before .before .before .before .before .before .before .before .loop .inv) .stands) .4
+same-length-26 c = same-lengths _ _ _ _ ((at-loop (search) .loop .inv) .begun) ((at-loop (search) .loop .inv) .stands) .4
 
 same-length-27 : tie.Need-same-length-27 Inv-loop μ-loop
-same-length-27 c = same-lengths _ _ _ _ ((c .before .before .before .before .before .before .before .before .loop .inv) .begun) ((c .before .before .before .before .before .before .before .before .loop .inv) .stands) .5
+same-length-27 c = same-lengths _ _ _ _ ((at-loop (search) .loop .inv) .begun) ((at-loop (search) .loop .inv) .stands) .5
 
 same-length-28 : tie.Need-same-length-28 Inv-loop μ-loop
-same-length-28 c = (c .before .before .before .before .before .before .before .before .loop .inv) .size
+same-length-28 c = (at-loop (search) .loop .inv) .size
 
 returns-4 : tie.Need-returns-4 Inv-loop μ-loop
-returns-4 c = out-finished _ _ _ _ _ _ _ _ _ (c .before .before .before .before .before .before .before .before .loop .inv) (c .before .before .before .before .before .before .before .loop-test .left) _ (c .count4 .ensures) (sym (ends _ _ _ _ _ _ _ _ _ (c .before .before .before .before .before .before .before .before .loop .inv) _ _ _ (here-at _ _ _ _ _ (c .before .before .before .before .before .place-now2 .ensures) refl (c .before .before .before .record-of2 .ensures)) _ (c .before .before .is-end2 .ensures)) ∙ c .before .if2 .taken)
+returns-4 c = out-finished _ _ _ _ _ _ _ _ _ (at-loop (search) .loop .inv) (after-loop (search) .loop-test .left) _ (c .count4 .ensures) (sym (ends _ _ _ _ _ _ _ _ _ (at-loop (search) .loop .inv) _ _ _ (here-at _ _ _ _ _ (after-place-now2 (search) .place-now2 .ensures) refl (after-record-of2 (search) .record-of2 .ensures)) _ (c .before .before .is-end2 .ensures)) ∙ c .before .if2 .taken)
 
 count-requires-5 : tie.Need-count-requires-5 Inv-loop μ-loop
-count-requires-5 c κs = most-lines _ _ _ _ _ _ _ _ _ (c .before .before .before .before .before .before .before .loop .inv)
+count-requires-5 c κs = most-lines _ _ _ _ _ _ _ _ _ (at-loop (search) .loop .inv)
 
 same-length-29 : tie.Need-same-length-29 Inv-loop μ-loop
-same-length-29 c = same-lengths _ _ _ _ ((c .before .before .before .before .before .before .before .before .loop .inv) .begun) ((c .before .before .before .before .before .before .before .before .loop .inv) .stands) .0
+same-length-29 c = same-lengths _ _ _ _ ((at-loop (search) .loop .inv) .begun) ((at-loop (search) .loop .inv) .stands) .0
 
 same-length-30 : tie.Need-same-length-30 Inv-loop μ-loop
-same-length-30 c = same-lengths _ _ _ _ ((c .before .before .before .before .before .before .before .before .loop .inv) .begun) ((c .before .before .before .before .before .before .before .before .loop .inv) .stands) .1
+same-length-30 c = same-lengths _ _ _ _ ((at-loop (search) .loop .inv) .begun) ((at-loop (search) .loop .inv) .stands) .1
 
 same-length-31 : tie.Need-same-length-31 Inv-loop μ-loop
-same-length-31 c = same-lengths _ _ _ _ ((c .before .before .before .before .before .before .before .before .loop .inv) .begun) ((c .before .before .before .before .before .before .before .before .loop .inv) .stands) .2
+same-length-31 c = same-lengths _ _ _ _ ((at-loop (search) .loop .inv) .begun) ((at-loop (search) .loop .inv) .stands) .2
 
 same-length-32 : tie.Need-same-length-32 Inv-loop μ-loop
-same-length-32 c = same-lengths _ _ _ _ ((c .before .before .before .before .before .before .before .before .loop .inv) .begun) ((c .before .before .before .before .before .before .before .before .loop .inv) .stands) .3
+same-length-32 c = same-lengths _ _ _ _ ((at-loop (search) .loop .inv) .begun) ((at-loop (search) .loop .inv) .stands) .3
 
 same-length-33 : tie.Need-same-length-33 Inv-loop μ-loop
-same-length-33 c = same-lengths _ _ _ _ ((c .before .before .before .before .before .before .before .before .loop .inv) .begun) ((c .before .before .before .before .before .before .before .before .loop .inv) .stands) .4
+same-length-33 c = same-lengths _ _ _ _ ((at-loop (search) .loop .inv) .begun) ((at-loop (search) .loop .inv) .stands) .4
 
 same-length-34 : tie.Need-same-length-34 Inv-loop μ-loop
-same-length-34 c = same-lengths _ _ _ _ ((c .before .before .before .before .before .before .before .before .loop .inv) .begun) ((c .before .before .before .before .before .before .before .before .loop .inv) .stands) .5
+same-length-34 c = same-lengths _ _ _ _ ((at-loop (search) .loop .inv) .begun) ((at-loop (search) .loop .inv) .stands) .5
 
 same-length-35 : tie.Need-same-length-35 Inv-loop μ-loop
-same-length-35 c = (c .before .before .before .before .before .before .before .before .loop .inv) .size
+same-length-35 c = (at-loop (search) .loop .inv) .size
 
 returns-5 : tie.Need-returns-5 Inv-loop μ-loop
-returns-5 c = out-full _ _ _ _ _ _ _ _ _ (c .before .before .before .before .before .before .before .before .loop .inv) (c .before .before .before .before .before .before .before .loop-test .left) _ (c .count5 .ensures) (sym (ends _ _ _ _ _ _ _ _ _ (c .before .before .before .before .before .before .before .before .loop .inv) _ _ _ (here-at _ _ _ _ _ (c .before .before .before .before .before .place-now2 .ensures) refl (c .before .before .before .record-of2 .ensures)) _ (c .before .before .is-end2 .ensures)) ∙ c .before .if2 .left)
+returns-5 c = out-full _ _ _ _ _ _ _ _ _ (at-loop (search) .loop .inv) (after-loop (search) .loop-test .left) _ (c .count5 .ensures) (sym (ends _ _ _ _ _ _ _ _ _ (at-loop (search) .loop .inv) _ _ _ (here-at _ _ _ _ _ (after-place-now2 (search) .place-now2 .ensures) refl (after-record-of2 (search) .record-of2 .ensures)) _ (c .before .before .is-end2 .ensures)) ∙ c .before .if2 .left)
 
 pub turns-spec : {M : Type 1} → statement M
 turns-spec =

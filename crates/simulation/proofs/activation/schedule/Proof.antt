@@ -6,11 +6,24 @@ use Rattle.simulation.proofs.activation.schedule.Tie as tie
 drop-requires : tie.Need-drop-requires
 drop-requires c κs = search needs
 
+-- The places that the answers look back to: `search` finds each by its type.
+abbrev start : tie.Start → tie.Start
+start x = x
+
+abbrev after-drop : tie.After-drop → tie.After-drop
+after-drop x = x
+
+abbrev after-place-for : tie.After-place-for → tie.After-place-for
+after-place-for x = x
+
+abbrev after-put : tie.After-put → tie.After-put
+after-put x = x
+
 place-for-requires : tie.Need-place-for-requires
-place-for-requires c κs = (c .before .before .before .before .before .before .drop .ensures .sound, (c .before .before .before .before .before .before .before .before .before .before .before .pre .1 .1 .0, (c .before .before .before .before .before .before .before .before .before .before .before .pre .1 .1 .1 .0, c .before .before .before .before .before .before .before .before .before .before .before .pre .1 .1 .1 .1)))
+place-for-requires c κs = (after-drop (search) .drop .ensures .sound, (start (search) .pre .1 .1 .0, (start (search) .pre .1 .1 .1 .0, start (search) .pre .1 .1 .1 .1)))
 
 put-requires : tie.Need-put-requires
-put-requires c κs = (c .before .before .before .before .before .before .before .before .before .drop .ensures .sound, (c .before .before .before .before .before .before .before .before .before .before .before .before .before .before .pre .1 .0, c .before .before .place-for .ensures .within))
+put-requires c κs = (after-drop (search) .drop .ensures .sound, (start (search) .pre .1 .0, c .before .before .place-for .ensures .within))
 
 same-length : tie.Need-same-length
 same-length c = search needs
@@ -19,7 +32,7 @@ same-length-2 : tie.Need-same-length-2
 same-length-2 c = search needs
 
 returns : tie.Need-returns
-returns c = scheduled-by _ _ _ _ _ _ _ _ _ _ _ _ _ (c .before .before .before .before .before .before .before .before .before .before .before .before .before .before .drop .ensures) (c .before .before .before .before .before .before .before .place-for .ensures) (c .before .before .before .before .put .ensures)
+returns c = scheduled-by _ _ _ _ _ _ _ _ _ _ _ _ _ (after-drop (search) .drop .ensures) (after-place-for (search) .place-for .ensures) (after-put (search) .put .ensures)
 
 pub schedule-spec : {M : Type 1} → statement M
 schedule-spec =

@@ -7,17 +7,33 @@ use Rattle.simulation.proofs.axis.move_to.Tie as tie
 drop-first-requires : tie.Need-drop-first-requires
 drop-first-requires c κs = search needs
 
+-- The places that the answers look back to: `search` finds each by its type.
+abbrev start : tie.Start → tie.Start
+start x = x
+
+abbrev after-drop-first : tie.After-drop-first → tie.After-drop-first
+after-drop-first x = x
+
+abbrev after-seek : tie.After-seek → tie.After-seek
+after-seek x = x
+
+abbrev after-link-behind : tie.After-link-behind → tie.After-link-behind
+after-link-behind x = x
+
+abbrev after-wide : tie.After-wide → tie.After-wide
+after-wide x = x
+
 seek-requires : tie.Need-seek-requires
-seek-requires c κs = c .before .before .before .before .before .before .drop-first .ensures .sound
+seek-requires c κs = after-drop-first (search) .drop-first .ensures .sound
 
 link-behind-requires : tie.Need-link-behind-requires
-link-behind-requires c κs = (c .before .before .before .before .before .before .before .before .drop-first .ensures .sound, (c .before .before .before .before .before .before .before .before .before .before .before .before .before .pre .1 .within, c .before .seek .ensures .within))
+link-behind-requires c κs = (after-drop-first (search) .drop-first .ensures .sound, (start (search) .pre .1 .within, c .before .seek .ensures .within))
 
 wide-requires : tie.Need-wide-requires
 wide-requires c κs = search needs
 
 set-time-requires : tie.Need-set-time-requires
-set-time-requires c κs = omega (arith, c .wide .ensures, c .before .before .before .before .before .before .before .before .before .before .before .before .before .before .before .before .before .before .pre .1 .timed, c .before .before .before .before .before .before .before .before .before .before .before .before .before .drop-first .kept .1 .1 .0)
+set-time-requires c κs = omega (arith, c .wide .ensures, start (search) .pre .1 .timed, after-drop-first (search) .drop-first .kept .1 .1 .0)
 
 same-length : tie.Need-same-length
 same-length c = search needs
@@ -26,7 +42,7 @@ same-length-2 : tie.Need-same-length-2
 same-length-2 c = search needs
 
 returns : tie.Need-returns
-returns c = moved-by _ _ _ _ _ _ _ _ _ _ _ (c .before .before .before .before .before .before .before .before .before .before .before .before .before .before .before .before .drop-first .ensures) (c .before .before .before .before .before .before .before .before .before .seek .ensures) (put-by _ _ _ _ _ _ _ _ _ (c .before .before .before .before .before .before .before .link-behind .ensures) (c .before .before .before .wide .ensures) (c .before .before .set-time .ensures))
+returns c = moved-by _ _ _ _ _ _ _ _ _ _ _ (after-drop-first (search) .drop-first .ensures) (after-seek (search) .seek .ensures) (put-by _ _ _ _ _ _ _ _ _ (after-link-behind (search) .link-behind .ensures) (after-wide (search) .wide .ensures) (c .before .before .set-time .ensures))
 
 pub move-to-spec : {M : Type 1} → statement M
 move-to-spec =

@@ -19,26 +19,54 @@ wide-requires-2 c κs = search needs
 sub-if1 : tie.Need-sub-if1
 sub-if1 c = search needs
 
+-- The places that the answers look back to: `search` finds each by its type.
+abbrev start : tie.Start → tie.Start
+start x = x
+
+abbrev after-wide : tie.After-wide → tie.After-wide
+after-wide x = x
+
+abbrev after-wide2 : tie.After-wide2 → tie.After-wide2
+after-wide2 x = x
+
+abbrev then1 : tie.Then1 → tie.Then1
+then1 x = x
+
+abbrev else1 : tie.Else1 → tie.Else1
+else1 x = x
+
+abbrev after-time-at : tie.After-time-at → tie.After-time-at
+after-time-at x = x
+
+abbrev then2 : tie.Then2 → tie.Then2
+then2 x = x
+
+abbrev else2 : tie.Else2 → tie.Else2
+else2 x = x
+
+abbrev after-move-to : tie.After-move-to → tie.After-move-to
+after-move-to x = x
+
 set-time-requires : tie.Need-set-time-requires
-set-time-requires c κs = omega (arith, c .before .before .before .before .wide .ensures, c .before .before .before .before .before .before .before .pre .1 .0 .timed)
+set-time-requires c κs = omega (arith, after-wide (search) .wide .ensures, start (search) .pre .1 .0 .timed)
 
 same-length : tie.Need-same-length
 same-length c = search needs
 
 returns : tie.Need-returns
-returns c = held-last _ _ _ _ _ _ _ (c .before .before .before .before .before .before .before .wide .ensures) (c .before .before .before .before .before .wide2 .ensures) _ (c .before .before .before .before .before .before .before .before .before .before .pre .0) (c .before .before .before .before .if1 .taken) (c .before .before .set-time .ensures)
+returns c = held-last _ _ _ _ _ _ _ (after-wide (search) .wide .ensures) (after-wide2 (search) .wide2 .ensures) _ (start (search) .pre .0) (then1 (search) .if1 .taken) (c .before .before .set-time .ensures)
 
 time-at-requires : tie.Need-time-at-requires
-time-at-requires c κs = omega (arith, c .before .before .wide2 .ensures, c .before .if1 .left, c .before .before .before .before .before .before .before .pre .0 .inside (c .before .before .before .before .wide .result), c .before .before .before .before .before .before .before .pre .1 .0 .full)
+time-at-requires c κs = omega (arith, c .before .before .wide2 .ensures, c .before .if1 .left, start (search) .pre .0 .inside (after-wide (search) .wide .result), start (search) .pre .1 .0 .full)
 
 set-time-requires-2 : tie.Need-set-time-requires-2
-set-time-requires-2 c κs = omega (arith, c .before .before .before .before .before .before .before .wide .ensures, c .before .before .before .before .before .before .before .before .before .before .pre .1 .0 .timed)
+set-time-requires-2 c κs = omega (arith, after-wide (search) .wide .ensures, start (search) .pre .1 .0 .timed)
 
 same-length-2 : tie.Need-same-length-2
 same-length-2 c = search needs
 
 returns-2 : tie.Need-returns-2
-returns-2 c = held-soon _ _ _ _ _ _ _ (c .before .before .before .before .before .before .before .before .before .before .wide .ensures) (c .before .before .before .before .before .before .before .before .wide2 .ensures) _ _ (c .before .before .before .before .before .before .before .before .before .before .before .before .before .pre .0) (c .before .before .before .before .before .before .before .if1 .left) (c .before .before .before .before .before .time-at .ensures) (c .before .before .before .before .if2 .taken) (c .before .before .set-time2 .ensures)
+returns-2 c = held-soon _ _ _ _ _ _ _ (after-wide (search) .wide .ensures) (after-wide2 (search) .wide2 .ensures) _ _ (start (search) .pre .0) (else1 (search) .if1 .left) (after-time-at (search) .time-at .ensures) (then2 (search) .if2 .taken) (c .before .before .set-time2 .ensures)
 
 add-move-to : tie.Need-add-move-to
 add-move-to c = search needs
@@ -53,7 +81,7 @@ same-length-4 : tie.Need-same-length-4
 same-length-4 c = search needs
 
 returns-3 : tie.Need-returns-3
-returns-3 c = held-moved _ _ _ _ _ _ _ (c .before .before .before .before .before .before .before .before .before .before .before .before .before .wide .ensures) (c .before .before .before .before .before .before .before .before .before .before .before .wide2 .ensures) _ _ _ (c .before .before .before .before .before .before .before .before .before .before .if1 .left) (c .before .before .before .before .before .before .before .before .time-at .ensures) (c .before .before .before .before .before .before .before .if2 .left) (c .before .before .before .before .move-to .ensures)
+returns-3 c = held-moved _ _ _ _ _ _ _ (after-wide (search) .wide .ensures) (after-wide2 (search) .wide2 .ensures) _ _ _ (else1 (search) .if1 .left) (after-time-at (search) .time-at .ensures) (else2 (search) .if2 .left) (after-move-to (search) .move-to .ensures)
 
 pub hold-at-spec : {M : Type 1} → statement M
 hold-at-spec =

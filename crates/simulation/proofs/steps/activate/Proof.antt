@@ -10,9 +10,28 @@ use Rattle.simulation.proofs.steps.activate.Tie as tie
 parties-fine-requires : tie.Need-parties-fine-requires
 parties-fine-requires c κs = search needs
 
+-- The places that the answers look back to: `search` finds each by its type.
+abbrev start : tie.Start → tie.Start
+start x = x
+
+abbrev after-parties-fine : tie.After-parties-fine → tie.After-parties-fine
+after-parties-fine x = x
+
+abbrev else1 : tie.Else1 → tie.Else1
+else1 x = x
+
+abbrev after-wide : tie.After-wide → tie.After-wide
+after-wide x = x
+
+abbrev after-place-of : tie.After-place-of → tie.After-place-of
+after-place-of x = x
+
+abbrev after-y-place : tie.After-y-place → tie.After-y-place
+after-y-place x = x
+
 returns : tie.Need-returns
 unfolding timedStep
-returns c = refused-3 _ _ _ _ _ (c .before .before .before .before .before .pre .sound) (failed _ _ (c .before .parties-fine .ensures) (c .if1 .taken))
+returns c = refused-3 _ _ _ _ _ (start (search) .pre .sound) (failed _ _ (c .before .parties-fine .ensures) (c .if1 .taken))
 
 wide-requires : tie.Need-wide-requires
 wide-requires c κs = search needs
@@ -24,7 +43,7 @@ y-place-requires : tie.Need-y-place-requires
 y-place-requires c κs = search needs
 
 narrow-requires : tie.Need-narrow-requires
-narrow-requires c κs = clause-in (c .before .before .before .before .before .before .before .before .args .c) (c .before .before .before .before .before .before .before .before .args .clause) (c .before .before .before .before .before .before .before .before .args .x) (c .before .before .before .before .before .before .before .before .args .y) (passed _ _ (c .before .before .before .before .parties-fine .ensures) (c .before .before .before .if1 .left))
+narrow-requires c κs = clause-in (start (search) .args .c) (start (search) .args .clause) (start (search) .args .x) (start (search) .args .y) (passed _ _ (after-parties-fine (search) .parties-fine .ensures) (else1 (search) .if1 .left))
 
 above-zero-requires : tie.Need-above-zero-requires
 above-zero-requires c κs = search needs
@@ -33,7 +52,7 @@ add-activate : tie.Need-add-activate
 add-activate c = search needs
 
 activate-requires : tie.Need-activate-requires
-activate-requires c κs = (rw (c .before .before .before .before .before .before .wide .ensures) (c .before .before .before .before .before .before .before .before .before .before .before .before .pre .sound), (omega (arith, c .before .before .before .before .before .before .wide .ensures, c .before .before .before .before .before .place-of .ensures, x-in (c .before .before .before .before .before .before .before .before .before .before .before .before .args .c) (c .before .before .before .before .before .before .before .before .before .before .before .before .args .clause) (c .before .before .before .before .before .before .before .before .before .before .before .before .args .x) (c .before .before .before .before .before .before .before .before .before .before .before .before .args .y) (passed _ _ (c .before .before .before .before .before .before .before .before .parties-fine .ensures) (c .before .before .before .before .before .before .before .if1 .left))), (omega (arith, c .before .before .before .before .before .before .wide .ensures, c .before .before .before .before .y-place .ensures, y-in (c .before .before .before .before .before .before .before .before .before .before .before .before .args .c) (c .before .before .before .before .before .before .before .before .before .before .before .before .args .clause) (c .before .before .before .before .before .before .before .before .before .before .before .before .args .x) (c .before .before .before .before .before .before .before .before .before .before .before .before .args .y) (passed _ _ (c .before .before .before .before .before .before .before .before .parties-fine .ensures) (c .before .before .before .before .before .before .before .if1 .left))), omega (arith, c .before .before .before .before .before .before .wide .ensures, c .before .before .before .before .before .before .before .before .before .before .before .before .pre .allowed .processes-in))))
+activate-requires c κs = (rw (after-wide (search) .wide .ensures) (start (search) .pre .sound), (omega (arith, after-wide (search) .wide .ensures, after-place-of (search) .place-of .ensures, x-in (start (search) .args .c) (start (search) .args .clause) (start (search) .args .x) (start (search) .args .y) (passed _ _ (after-parties-fine (search) .parties-fine .ensures) (else1 (search) .if1 .left))), (omega (arith, after-wide (search) .wide .ensures, after-y-place (search) .y-place .ensures, y-in (start (search) .args .c) (start (search) .args .clause) (start (search) .args .x) (start (search) .args .y) (passed _ _ (after-parties-fine (search) .parties-fine .ensures) (else1 (search) .if1 .left))), omega (arith, after-wide (search) .wide .ensures, start (search) .pre .allowed .processes-in))))
 
 same-length : tie.Need-same-length
 same-length c = search needs

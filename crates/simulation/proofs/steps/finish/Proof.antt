@@ -9,20 +9,27 @@ wide-requires c κs = search needs
 add-first : tie.Need-add-first
 add-first c = search needs
 
+-- The places that the answers look back to: `search` finds each by its type.
+abbrev start : tie.Start → tie.Start
+start x = x
+
+abbrev after-wide : tie.After-wide → tie.After-wide
+after-wide x = x
+
 first-requires : tie.Need-first-requires
-first-requires c κs = rw (c .before .wide .ensures) (c .before .before .before .before .before .pre .judged .sound)
+first-requires c κs = rw (c .before .wide .ensures) (start (search) .pre .judged .sound)
 
 same-length : tie.Need-same-length
 same-length c = search needs
 
 returns : tie.Need-returns
-returns c = finish-main _ _ _ _ _ (rw (c .before .before .before .wide .ensures) at (c .before .first .ensures)) (c .before .before .before .before .before .before .before .pre .judged .sound) (c .if1 .taken)
+returns c = finish-main _ _ _ _ _ (rw (after-wide (search) .wide .ensures) at (c .before .first .ensures)) (start (search) .pre .judged .sound) (c .if1 .taken)
 
 add-finish : tie.Need-add-finish
 add-finish c = search needs
 
 finish-requires : tie.Need-finish-requires
-finish-requires c κs = rw ((c .before .before .before .before .before .before .wide .ensures)) ((c .before .before .before .before .before .before .before .before .before .before .pre .judged .sound), (c .before .before .before .before .before .before .before .before .before .before .pre .first-led))
+finish-requires c κs = rw ((after-wide (search) .wide .ensures)) ((start (search) .pre .judged .sound), (start (search) .pre .first-led))
 
 same-length-2 : tie.Need-same-length-2
 same-length-2 c = search needs
