@@ -86,10 +86,15 @@ pub data Turn : Type 0 where
   ended : End → Turn
   stepped : Line → Machine → Turn
 
+-- what an accepted step does to the machine beside its call, k being the machine after it: "The stepping process moves to next, or to y when
+-- 12 finds the head empty"
+abbrev pub movedOn : Sheet → Machine → Machine → Machine
+movedOn s m k = withPosition (s .counts) k (current (m .lists)) (nextNow s m)
+
 -- "A refused step changes nothing and ends the call"
 abbrev pub moving : Sheet → Machine → Result Machine → Turn
 moving s m (refused r) = ended (Refused r)
-moving s m (done k) = stepped (lineNow s m) (withPosition (s .counts) k (current (m .lists)) (nextNow s m))
+moving s m (done k) = stepped (lineNow s m) (movedOn s m k)
 
 unfoldable pub step : Sheet → Machine → Turn
 step s m = moving s m (perform (s .counts) (callNow s m) m)

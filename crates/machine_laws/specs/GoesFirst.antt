@@ -12,9 +12,9 @@ use Rattle.model_laws.specs.Result.{done, refused, Result}
 use Rattle.model_laws.specs.Now.{first, current}
 use Rattle.simulation_laws.specs.Orders.{Before}
 use Rattle.sheet.specs.Sheet.{Sheet}
-use Rattle.machine.specs.Machine.{Machine, withPosition}
+use Rattle.machine.specs.Machine.{Machine}
 use Rattle.machine.specs.Calls.{perform}
-use Rattle.machine.specs.Steps.{callNow, nextNow, Line, lineNow, Turn, stepped}
+use Rattle.machine.specs.Steps.{callNow, Line, lineNow, Turn, stepped, movedOn}
 use Rattle.machine.specs.Run.{turn, state}
 use Rattle.machine.specs.History.{noticesAt}
 use Rattle.machine_laws.specs.TurnCases.{Then, turn-cases}
@@ -45,8 +45,7 @@ line-current s m l k =
     (go (perform (s .counts) (callNow s m) m))
   where
     go : (r : Result Machine)
-        → Then (λ j. stepped (lineNow s m) (withPosition (s .counts) j (current (m .lists))
-        (nextNow s m)) ≡ stepped l k → l .process ≡ current (m .lists)) r
+        → Then (λ j. stepped (lineNow s m) (movedOn s m j) ≡ stepped l k → l .process ≡ current (m .lists)) r
     go (refused r) = tt
     go (done j) = λ q. let e : lineNow s m ≡ l = cc in ap (λ (x : Line). x .process) (sym e)
 

@@ -5,9 +5,9 @@ use Rattle.model_laws.specs.Now.{current}
 use Rattle.sheet.specs.Sheet.{Sheet}
 use Rattle.machine.specs.declared.End.{End}
 use Rattle.machine.specs.declared.End.the-variants.{Finished, Refused}
-use Rattle.machine.specs.Machine.{Machine, withPosition}
+use Rattle.machine.specs.Machine.{Machine}
 use Rattle.machine.specs.Calls.{perform}
-use Rattle.machine.specs.Steps.{callNow, nextNow, lineNow, Turn, ended, stepped, moving, step}
+use Rattle.machine.specs.Steps.{callNow, lineNow, Turn, ended, stepped, moving, step, movedOn}
 use Rattle.machine.specs.Run.{atEnd, turn}
 
 -- refused, or done with a machine of which Q holds
@@ -17,13 +17,13 @@ Then Q (done m) = Q m
 
 -- it comes to an end, or to what its call leaves
 pub turn-cases : (s : Sheet) (m : Machine) (Q : Turn → Type 0) → ((e : End) → Q (ended e))
-    → Then (λ k. Q (stepped (lineNow s m) (withPosition (s .counts) k (current (m .lists)) (nextNow s m))))
+    → Then (λ k. Q (stepped (lineNow s m) (movedOn s m k)))
     (perform (s .counts) (callNow s m) m)
     → Q (turn s 1 m)
 unfolding turn step
 turn-cases s m Q f g = test (atEnd s m) (λ e. rw e (f Finished)) (λ e. rw e (go (perform (s .counts) (callNow s m) m) g))
   where
-    go : (r : Result Machine) → Then (λ k. Q (stepped (lineNow s m) (withPosition (s .counts) k (current (m .lists)) (nextNow s m)))) r
+    go : (r : Result Machine) → Then (λ k. Q (stepped (lineNow s m) (movedOn s m k))) r
         → Q (moving s m r)
     go (refused r) h = f (Refused r)
     go (done k) h = h

@@ -28,7 +28,7 @@ use Rattle.run_laws.specs.declared.Effect.the-variants.{Stays, Jumps, Mo
 use Rattle.run_laws.specs.declared.Pause.{Pause}
 use Rattle.run_laws.specs.declared.Pause.the-variants.{Full, Apart as Due, Refused as Stopped}
 use Rattle.run_laws.specs.declared.Stretch.{Stretch}
-use Rattle.run_laws.specs.Run.{RunTables, On, recordGot, recordAtNow, resolved, callDue, endsNow, RanOn, stoppedOn, turnsOn}
+use Rattle.run_laws.specs.Run.{RunTables, runOf, On, recordGot, recordAtNow, resolved, callDue, endsNow, RanOn, stoppedOn, turnsOn}
 use Rattle.run_laws.specs.Performed.{callEffect, stays-or-moves, effectOf, unlessRefused, Performed, performed, verdictBy, turnedBy}
 use Rattle.run_laws.specs.Tried.{apart, here}
 use Rattle.run_laws.specs.Needs.{Callable}
@@ -139,13 +139,13 @@ module _ (c : Counts) (bytes : List ℕ) (room n : ℕ) (whole : RanOn) (u₀ : 
       module _ (e : endsNow c (u′ .model .axis) (u′ .positions) ≡ false) (time : ℕ) (et : time ≡ getD (u′ .model .times) f 0)
           (o : Performed) (eo : o ≡ performed c (recordGot (c .processes) bytes r) f (u′ .model) (u′ .words)) where
         pub apart-down : (k : ℕ) → k ≡ s .lines → (x : Refusal) → Judged x ≡ verdictBy (o .effect)
-            → stoppedOn k (Ended x) (record { model = o .tables; positions = u′ .positions; words = o .words }) tr′ ≡ whole
+            → stoppedOn k (Ended x) (runOf (o .tables) (u′ .positions) (o .words)) tr′ ≡ whole
         apart-down k ek x v =
             turned-down c bytes room (s .lines) whole u₀ tr₀ u′ tr′ due-on f time r (at time et) due-room e o eo k ek x (refused-of (o .effect) x v)
 
         pub apart-on : Fine ≡ verdictBy (o .effect) → (next : ℕ) → next ≡ recordGot (c .processes) bytes r .next → (ps tr″ : List ℕ)
             → Went c f time r (16 * s .lines) next (u′ .positions) tr′ ps tr″ → length tr″ ≡ length tr′
-            → Turning c bytes room (s .lines + 1) whole u₀ tr₀ (record { model = o .tables; positions = ps; words = o .words }) tr″
+            → Turning c bytes room (s .lines + 1) whole u₀ tr₀ (runOf (o .tables) ps (o .words)) tr″
         apart-on v next en ps tr″ w z =
             goes-on c bytes room (s .lines) whole u₀ tr₀ u′ tr′ due-on f time r (at time et) due-room e o eo next
             (goes-next c (recordGot (c .processes) bytes r) f (u′ .model) (u′ .words) due-apart o eo v next en) ps tr″ w z

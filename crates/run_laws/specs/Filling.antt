@@ -26,7 +26,7 @@ use Rattle.sheet.specs.declared.header.Checked.the-variants.{Accepted, Refused 
 use Rattle.sheet.specs.Sheet.{countsOf, startOffset, startAt}
 use Rattle.sheet.specs.Accepted.{checked}
 use Rattle.sheet.specs.Ranges.{checked-yes, allowed-counts, exact-length}
-use Rattle.run_laws.specs.Run.{RunTables}
+use Rattle.run_laws.specs.Run.{runOf, RunTables}
 use Rattle.run_laws.specs.Fresh.{startsAre, freshRun, Filled, sizesFine, filledFor, filled}
 
 -- ---- zeros in the accumulators' words, up to i
@@ -140,7 +140,7 @@ module _ (bytes : List ℕ) (u : RunTables) (h : Header) where
       model-says = rw allowed
 
       pub fill-model : (t : Tables) (q : Refusal) (v : Verdict) → v ≡ Judged q → record { tables = t; answer = v } ≡ freshed (h .counts) (u .model)
-          → record { run = record { model = t; positions = u .positions; words = u .words }; answer = Judged q } ≡ filledFor (Accepted h) bytes u
+          → record { run = runOf t (u .positions) (u .words); answer = Judged q } ≡ filledFor (Accepted h) bytes u
       unfolding sizesFine
       fill-model t q v ev g =
           let f : record { tables = t; answer = Judged q } ≡ freshed (h .counts) (u .model) =
@@ -150,18 +150,18 @@ module _ (bytes : List ℕ) (u : RunTables) (h : Header) where
           let w : Judged q ≡ Fine = ap (λ (a : After Verdict). a .answer) z in let y : false ≡ true = cc in clash y)
           (λ l. let z : record { tables = t; answer = Judged q } ≡ record { tables = u .model; answer = Judged Size } = f ∙ model-says ∙ (rw l) in
           rw (eq-eqb (length (u .positions)) (h .counts .processes + 1) at, eq-eqb (length (u .words)) 192 nw, l)
-          (ap (λ (a : After Verdict). record { run = record { model = a .tables; positions = u .positions; words = u .words }; answer = a .answer }) z))
+          (ap (λ (a : After Verdict). record { run = runOf (a .tables) (u .positions) (u .words); answer = a .answer }) z))
 
       pub fill-all : (t : Tables) (ps : List ℕ) (w : List ℤ) (v : Verdict) → v ≡ Fine → record { tables = t; answer = v } ≡ freshed (h .counts) (u .model)
           → ps ≡ startsAre (h .counts .processes) bytes → w ≡ replicate (length (u .words)) (pos 0)
-          → record { run = record { model = t; positions = ps; words = w }; answer = Fine } ≡ filledFor (Accepted h) bytes u
+          → record { run = runOf t ps w; answer = Fine } ≡ filledFor (Accepted h) bytes u
       unfolding sizesFine freshRun
       fill-all t ps w v ev f eps ew =
           test (lengthsFine (h .counts) (u .model))
           (λ l. let z : record { tables = t; answer = v } ≡ record { tables = freshTables (h .counts); answer = Fine } = f ∙ model-says ∙ (rw l) in
           let y : t ≡ freshTables (h .counts) = ap (λ (a : After Verdict). a .tables) z in
           rw (eq-eqb (length (u .positions)) (h .counts .processes + 1) at, eq-eqb (length (u .words)) 192 nw, l)
-          (λ i. record { run = record { model = y i; positions = eps i; words = (ew ∙ ap (λ (n : ℕ). replicate n (pos 0)) nw) i }; answer = Fine }))
+          (λ i. record { run = runOf (y i) (eps i) ((ew ∙ ap (λ (n : ℕ). replicate n (pos 0)) nw) i); answer = Fine }))
           (λ l. let z : record { tables = t; answer = v } ≡ record { tables = u .model; answer = Judged Size } = f ∙ model-says ∙ (rw l) in
           let w : Fine ≡ Judged Size = sym ev ∙ ap (λ (a : After Verdict). a .answer) z in let y : false ≡ true = cc in clash y)
 

@@ -24,7 +24,7 @@ use Rattle.sheet.specs.Accepted.{accepted, checked}
 use Rattle.sheet.specs.Ranges.{records-listed}
 use Rattle.machine.specs.Machine.{fresh}
 use Rattle.run_laws.specs.MachineLaws.{accepted-range}
-use Rattle.run_laws.specs.Run.{RunTables}
+use Rattle.run_laws.specs.Run.{runOf, RunTables}
 use Rattle.run_laws.specs.Standing.{Stands}
 
 -- "place 0 zero", and the record where each process begins
@@ -32,7 +32,7 @@ abbrev pub startsAre : ℕ → List ℕ → List ℕ
 startsAre P bytes = 0 ∷ listed (startAt bytes) 1 P
 
 unfoldable pub freshRun : Counts → List ℕ → RunTables
-freshRun c bytes = record { model = freshTables c; positions = startsAre (c .processes) bytes; words = replicate 192 (pos 0) }
+freshRun c bytes = runOf (freshTables c) (startsAre (c .processes) bytes) (replicate 192 (pos 0))
 
 -- tables of the right lengths are filled; else refusal 8 or 1, and they are left alone
 pub record Filled : Type 0 where

@@ -30,7 +30,7 @@ use Rattle.machine.specs.declared.End.the-variants.{Refused}
 use Rattle.machine.specs.Calls.{ListCall, onSet, hold, passivate, wait, cancel, activate, ifEmpty, finish, Call, onList, accum}
 use Rattle.run_laws.specs.Fresh.{sizesFine, filledFor, filled}
 use Rattle.run_laws.specs.OnTables.{tablesAfter, Carried, carriedOut}
-use Rattle.run_laws.specs.Run.{RunTables, runJudged, callDue, Turned, On, Off, turnedOf, Stepped, moved, dueIn, lineIn, stepOn, endsNow, RanOn, stoppedOn, turnsOn, judgedRun, checkedRun, runOn}
+use Rattle.run_laws.specs.Run.{RunTables, runOf, runJudged, callDue, Turned, On, Off, turnedOf, Stepped, moved, dueIn, lineIn, stepOn, endsNow, RanOn, stoppedOn, turnsOn, judgedRun, checkedRun, runOn}
 
 -- ---- a call
 
@@ -82,7 +82,7 @@ module _ (c : Counts) (bytes : List ℕ) (i : ℕ) (u : RunTables) (tr : List �
       go (On next) q p = let z : false ≡ true = cc in clash z
       go (Off s) q p =
           let k = call-kept c (callDue (dueIn c bytes u)) (u .model) (u .words) s (turned-off (its .answer) (dueIn c bytes u .next) s q) in
-          (λ j. record { model = k .0 j; positions = u .positions; words = k .1 j }, refl)
+          (λ j. runOf (k .0 j) (u .positions) (k .1 j), refl)
 
 -- ---- a call of a run
 

@@ -20,6 +20,7 @@ pub mod StepFollows
 pub mod TurnsFollow
 pub mod Turning
 pub mod Running
+pub mod OneTurn
 pub mod Paused
 pub mod Stretching
 pub mod Between

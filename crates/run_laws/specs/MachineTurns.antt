@@ -31,9 +31,9 @@ use Rattle.sheet.specs.declared.records.Record.{Record}
 use Rattle.sheet.specs.Sheet.{Sheet}
 use Rattle.sheet.specs.Fields.{Ranged}
 use Rattle.machine.specs.declared.End.{End}
-use Rattle.machine.specs.Machine.{Machine, withPosition}
+use Rattle.machine.specs.Machine.{Machine}
 use Rattle.machine.specs.Calls.{Call, onList, accum, listsAfter, lifted, storing, perform}
-use Rattle.machine.specs.Steps.{recordOf, recordNow, nextOf, callNow, nextNow, lineNow, Turn, ended, stepped, step}
+use Rattle.machine.specs.Steps.{recordOf, recordNow, nextOf, callNow, nextNow, lineNow, Turn, ended, stepped, step, movedOn}
 use Rattle.machine.specs.Run.{turn, onward}
 use Rattle.machine.specs.History.{Stepwise, placing, placingOf, listPlacing, ifStepped}
 use Rattle.machine_laws.specs.StepLaws.{stepwise-same}
@@ -156,7 +156,7 @@ module _ (s : Sheet) (r : InRange s) (m : Machine) (g : Going s m) where
 
   -- what holds at an end and after every call of this kind holds after the turn
   by-call : (Q : Turn → Type 0) → ((e : End) → Q (ended e))
-      → ((k : Machine) → Performed (s .counts) (callNow s m) m k → Q (stepped (lineNow s m) (withPosition (s .counts) k (current (m .lists)) (nextNow s m))))
+      → ((k : Machine) → Performed (s .counts) (callNow s m) m k → Q (stepped (lineNow s m) (movedOn s m k)))
       → Q (turn s 1 m)
   by-call Q f h = turn-cases s m Q f (then-so _ _ (perform (s .counts) (callNow s m) m) h its-call)
 

@@ -32,6 +32,8 @@ use Rattle.machine.specs.Calls.{Call, onList, finish}
 use Rattle.machine.specs.Steps.{callOf, nextOf}
 use Rattle.run_laws.specs.OnTables.{operandWith, Carried, carriedOut}
 use Rattle.run_laws.specs.declared.Ran.{Ran}
+use Rattle.run_laws.specs.declared.Turn.{Turn}
+use Rattle.run_laws.specs.declared.Turn.the-variants.{Finished as AtEnd, Made, Refused as NotMade}
 
 -- a run's lent tables: the model's four, the positions ("P + 1 words of 32 bits, place 0 zero"), and the words of 64 accumulators
 pub record RunTables : Type 0 where
@@ -39,10 +41,14 @@ pub record RunTables : Type 0 where
   pub positions : List ℕ
   pub words : List ℤ
 
+-- by the model's tables, the positions and the words
+abbrev pub runOf : Tables → List ℕ → List ℤ → RunTables
+runOf t ps w = record { model = t; positions = ps; words = w }
+
 -- by the words of the slices that are lent
 abbrev pub lent : List ℕ → List ℕ → List ℕ → List ℕ → List ℕ → List ℤ → RunTables
 lent links axis times marks positions words =
-    record { model = record { links = links; axis = axis; times = times; marks = marks }; positions = positions; words = words }
+    runOf (record { links = links; axis = axis; times = times; marks = marks }) positions words
 
 -- ---- refusals 1 and 2
 
@@ -104,9 +110,9 @@ pub record Stepped : Type 0 where
 -- an accepted call moves the process and writes its line at byte i
 abbrev pub moved : Turned → Carried → List ℕ → ℕ → List ℕ → ℕ → List ℕ → Stepped
 moved (On next) a positions f tr i line =
-    record { run = record { model = a .tables; positions = set positions f next; words = a .words }; trace = put tr i line; turned = On next }
+    record { run = runOf (a .tables) (set positions f next) (a .words); trace = put tr i line; turned = On next }
 moved (Off r) a positions f tr i line =
-    record { run = record { model = a .tables; positions = positions; words = a .words }; trace = tr; turned = Off r }
+    record { run = runOf (a .tables) positions (a .words); trace = tr; turned = Off r }
 
 -- current's place, its record's number, the record, and the call
 abbrev pub recordAtNow : Counts → RunTables → ℕ
@@ -129,6 +135,22 @@ stepOn c bytes i u tr =
 -- "main current at position 0"; main's place is 1
 unfoldable pub endsNow : Counts → List ℕ → List ℕ → Bool
 endsNow c axis positions = eqb (firstOf (half c) axis) 1 && eqb (getD positions 1 0) 0
+
+-- what a turn leaves, and what it comes to: "main current at position 0, finished", else one step
+pub record TurnedOn : Type 0 where
+  pub run : RunTables
+  pub trace : List ℕ
+  pub turn : Turn
+
+abbrev pub turnBy : Turned → Turn
+turnBy (On next) = Made
+turnBy (Off r) = NotMade r
+
+unfoldable pub turnOn : Counts → List ℕ → ℕ → RunTables → List ℕ → TurnedOn
+turnOn c bytes i u tr =
+    let s = stepOn c bytes i u tr in
+    if endsNow c (u .model .axis) (u .positions) then record { run = u; trace = tr; turn = AtEnd }
+    else record { run = s .run; trace = s .trace; turn = turnBy (s .turned) }
 
 -- what a run call leaves
 pub record RanOn : Type 0 where

@@ -13,7 +13,7 @@ use Rattle.model_laws.specs.Now.{half, timeOf, firstOf}
 use Rattle.sheet.specs.Sheet.{recordOffset}
 use Rattle.machine.specs.declared.End.the-variants.{Refused}
 use Rattle.run_laws.specs.declared.Effect.the-variants.{Refused as NotDone}
-use Rattle.run_laws.specs.Run.{RunTables, On, Off, Stepped, recordGot, recordAtNow, stepOn, endsNow, RanOn, stoppedOn}
+use Rattle.run_laws.specs.Run.{RunTables, runOf, On, Off, Stepped, recordGot, recordAtNow, stepOn, endsNow, RanOn, stoppedOn}
 use Rattle.run_laws.specs.Performed.{Performed, performed, turnedBy}
 use Rattle.run_laws.specs.Needs.{Performable}
 use Rattle.run_laws.specs.Reads.{ends-at}
@@ -38,12 +38,12 @@ here-at c u f time r e et er =
 
 -- the tables with the process at place f at record r
 abbrev pub positioned : RunTables → ℕ → ℕ → RunTables
-positioned u f r = record { model = u .model; positions = set (u .positions) f r; words = u .words }
+positioned u f r = runOf (u .model) (set (u .positions) f r) (u .words)
 
 -- a position that the table has
 pub as-positioned : (u : RunTables) (f r : ℕ) → r ≡ getD (u .positions) f 0 → u ≡ positioned u f r
 as-positioned u f r e =
-    ap (λ (l : List ℕ). record { model = u .model; positions = l; words = u .words })
+    ap (λ (l : List ℕ). runOf (u .model) l (u .words))
     (sym (ap (set (u .positions) f) e ∙ set-getD (u .positions) f 0))
 
 pub here-positioned : (c : Counts) (u : RunTables) (f time r : ℕ) → f ≡ firstOf (half c) (u .model .axis) → time ≡ getD (u .model .times) f 0 → r ≡ getD (u .positions) f 0
@@ -61,16 +61,16 @@ module _ (c : Counts) (bytes : List ℕ) (room n : ℕ) (whole : RanOn) (u₀ : 
   module _ (h : n < room) (e : endsNow c (u .model .axis) (u .positions) ≡ false)
       (p : Performed) (ep : p ≡ performed c (recordGot (c .processes) bytes r) f (u .model) (u .words)) where
     pub turned-down : (k : ℕ) → k ≡ n → (x : Refusal) → p .effect ≡ NotDone x
-        → stoppedOn k (Refused x) (record { model = p .tables; positions = u .positions; words = p .words }) tr ≡ whole
+        → stoppedOn k (Refused x) (runOf (p .tables) (u .positions) (p .words)) tr ≡ whole
     turned-down k ek x ex =
         step-refused c bytes room n whole u₀ tr₀ u tr t h e
-        (record { run = record { model = p .tables; positions = u .positions; words = p .words }; trace = tr; turned = Off x })
+        (record { run = runOf (p .tables) (u .positions) (p .words); trace = tr; turned = Off x })
         (step-off c bytes (16 * n) u tr f (at .place-is) r (at .record-is) time (at .time-is) p ep x ex) k ek x refl
 
     module _ (next : ℕ) (v : turnedBy (p .effect) (recordGot (c .processes) bytes r .next) ≡ On next)
         (ps tr′ : List ℕ) (g : Went c f time r (16 * n) next (u .positions) tr ps tr′) where
       abbrev u′ : RunTables
-      u′ = record { model = p .tables; positions = ps; words = p .words }
+      u′ = runOf (p .tables) ps (p .words)
 
       abbrev o : Stepped
       o = record { run = u′; trace = tr′; turned = On next }

@@ -22,15 +22,15 @@ use Rattle.sheet.specs.Sheet.{countsOf, recordsOf, recordWith, Sheet, sheetOf}
 use Rattle.sheet.specs.Accepted.{accepted}
 use Rattle.sheet.specs.Ranges.{records-listed}
 use Rattle.trace.specs.Lines.{put}
-use Rattle.machine.specs.Machine.{Machine, withPosition}
+use Rattle.machine.specs.Machine.{Machine}
 use Rattle.machine.specs.Calls.{ifEmpty, Call, onList, listsAfter, perform}
-use Rattle.machine.specs.Steps.{operandOf, callOf, nextOf, recordOf, recordNow, itsCall, itsNext, callNow, nextNow, lineNow}
+use Rattle.machine.specs.Steps.{operandOf, callOf, nextOf, recordOf, recordNow, itsCall, itsNext, callNow, nextNow, lineNow, movedOn}
 use Rattle.machine_laws.specs.TurnCases.{Then}
 use Rattle.run_laws.specs.OnTables.{Carried, carriedOut}
 use Rattle.run_laws.specs.PerformFollows.{FollowsRun, perform-follows}
 use Rattle.run_laws.specs.MachineTurns.{perform-sizes, next-in, set-in}
 use Rattle.run_laws.specs.MachineLaws.{accepted-range}
-use Rattle.run_laws.specs.Run.{RunTables, Turned, On, Off, recordGot, resolved, callDue, turnedOf, Stepped, moved, recordAtNow, dueIn, lineIn, stepOn}
+use Rattle.run_laws.specs.Run.{RunTables, runOf, Turned, On, Off, recordGot, resolved, callDue, turnedOf, Stepped, moved, recordAtNow, dueIn, lineIn, stepOn}
 use Rattle.run_laws.specs.Standing.{Stands, ready, now-in}
 use Rattle.run_laws.specs.Refine.{bytesOf, stood, fit, current-is, record-is, line-is, listAfter, some-call, some-next}
 
@@ -91,7 +91,7 @@ module _ (bytes : List ℕ) (ok : accepted bytes ≡ true) (m : Machine) (u : Ru
   abbrev pub StepIs : Result Machine → List ℕ → ℕ → Stepped → Type 0
   StepIs (refused q) tr i o = (o .turned ≡ Off q) × (o .run ≡ u) × (o .trace ≡ tr)
   StepIs (done k) tr i o =
-      (o .turned ≡ On (dueIn c bytes u .next)) × Stands c (recordsOf bytes) (withPosition c k (current l) (nextNow s m)) (o .run) × (o .trace ≡ put tr i (bytesOf (lineNow s m)))
+      (o .turned ≡ On (dueIn c bytes u .next)) × Stands c (recordsOf bytes) (movedOn s m k) (o .run) × (o .trace ≡ put tr i (bytesOf (lineNow s m)))
 
   abbrev f : ℕ
   f = firstOf (half (countsOf bytes)) (u .model .axis)
@@ -111,8 +111,9 @@ module _ (bytes : List ℕ) (ok : accepted bytes ≡ true) (m : Machine) (u : Ru
       go (suc i) a q = ap (λ (j : ℕ). 0 ∷ set (m .positions) j v) (omega arith)
 
   stands-next : (k : Machine) → perform c (callNow s m) m ≡ done k → (t : Tables) (w : List ℤ) → Spells c (k .lists) t → w ≡ flat (k .triples)
-      → Stands c (recordsOf bytes) (withPosition c k (current l) (nextNow s m))
-      (record { model = t; positions = set (u .positions) f (dueIn c bytes u .next); words = w })
+      → Stands c (recordsOf bytes) (movedOn s m k)
+      (runOf t (set (u .positions) f (dueIn c bytes u .next)) w)
+  unfolding sheetOf
   stands-next k e t w sp ew =
       let z : (k .positions ≡ m .positions) × (length (k .triples) ≡ length (m .triples)) =
       subst (Then (λ n. (n .positions ≡ m .positions) × (length (n .triples) ≡ length (m .triples)))) e (perform-sizes c (callNow s m) m) in
@@ -144,7 +145,7 @@ module _ (bytes : List ℕ) (ok : accepted bytes ≡ true) (m : Machine) (u : Ru
       go (refused q) e w =
           subst (λ (v : Turned). StepIs (refused q) tr i (moved v (carriedOut c (callNow s m) (u .model) (flat (m .triples))) (u .positions) f tr i (lineIn c u)))
           (sym (ap (λ (a : Answer). turnedOf a (dueIn c bytes u .next)) (w .0)))
-          (refl, (λ j. record { model = w .1 j; positions = u .positions; words = (w .2 ∙ sym (g .words)) j }), refl)
+          (refl, (λ j. runOf (w .1 j) (u .positions) ((w .2 ∙ sym (g .words)) j)), refl)
       go (done k) e w =
           subst (λ (v : Turned). StepIs (done k) tr i (moved v (carriedOut c (callNow s m) (u .model) (flat (m .triples))) (u .positions) f tr i (lineIn c u)))
           (sym (ap (λ (a : Answer). turnedOf a (dueIn c bytes u .next)) (w .0)))

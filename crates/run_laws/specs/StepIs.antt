@@ -23,7 +23,7 @@ use Rattle.machine.specs.Steps.{nextOf}
 use Rattle.run_laws.specs.OnTables.{tablesAfter, Carried, carriedOut}
 use Rattle.run_laws.specs.declared.Effect.{Effect}
 use Rattle.run_laws.specs.declared.Effect.the-variants.{Stays, Jumps, Moves, Refused, Apart}
-use Rattle.run_laws.specs.Run.{RunTables, Turned, On, Off, recordGot, resolved, callDue, turnedOf, moved, recordAtNow, dueIn, lineIn, stepOn}
+use Rattle.run_laws.specs.Run.{RunTables, runOf, Turned, On, Off, recordGot, resolved, callDue, turnedOf, moved, recordAtNow, dueIn, lineIn, stepOn}
 use Rattle.run_laws.specs.Performed.{callEffect, stays-or-moves, effectOf, unlessRefused, Performed, performed, turnedBy}
 use Rattle.run_laws.specs.Which.{call-12}
 
@@ -135,15 +135,15 @@ module _
       ∙ ap (λ (o : Performed). moved (turnedOf (a .answer) (nextOf q none)) (carried o) (u .positions) (firstOf (half c) (u .model .axis)) tr i (lineIn c u)) same
 
   pub step-off : (x : Refusal) → p .effect ≡ Refused x
-      → record { run = record { model = p .tables; positions = u .positions; words = p .words }; trace = tr; turned = Off x } ≡ stepOn c bytes i u tr
+      → record { run = runOf (p .tables) (u .positions) (p .words); trace = tr; turned = Off x } ≡ stepOn c bytes i u tr
   step-off x e = step-is (Off x) (ap (λ (v : Effect). turnedBy v (q .next)) e)
 
   pub step-on : (next : ℕ) → turnedBy (p .effect) (recordGot (c .processes) bytes r .next) ≡ On next → (ps tr′ : List ℕ) → Went c f time r i next (u .positions) tr ps tr′
-      → record { run = record { model = p .tables; positions = ps; words = p .words }; trace = tr′; turned = On next } ≡ stepOn c bytes i u tr
+      → record { run = runOf (p .tables) ps (p .words); trace = tr′; turned = On next } ≡ stepOn c bytes i u tr
   step-on next e ps tr′ g =
-      ap (λ (l : List ℕ). record { run = record { model = p .tables; positions = l; words = p .words }; trace = tr′; turned = On next })
+      ap (λ (l : List ℕ). record { run = runOf (p .tables) l (p .words); trace = tr′; turned = On next })
       (g .positions ∙ ap (λ (n : ℕ). set (u .positions) n next) ef)
-      ∙ ap (λ (l : List ℕ). record { run = record { model = p .tables; positions = set (u .positions) (firstOf (half c) (u .model .axis)) next; words = p .words }; trace = l; turned = On next })
+      ∙ ap (λ (l : List ℕ). record { run = runOf (p .tables) (set (u .positions) (firstOf (half c) (u .model .axis)) next) (p .words); trace = l; turned = On next })
       (g .trace ∙ ap (put tr i) line-is)
       ∙ step-is (On next) (sym (ap (λ (n : ℕ). turnedBy (p .effect) (recordGot (c .processes) bytes n .next)) er) ∙ e)
 

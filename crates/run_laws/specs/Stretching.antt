@@ -22,7 +22,7 @@ use Rattle.trace.specs.Lines.{put, lineBytes}
 use Rattle.machine.specs.declared.End.the-variants.{Refused as Ended}
 use Rattle.run_laws.specs.declared.Effect.the-variants.{Refused}
 use Rattle.run_laws.specs.declared.Pause.the-variants.{Full, Apart, Refused as Stopped}
-use Rattle.run_laws.specs.Run.{RunTables, On, recordGot, endsNow, RanOn, stoppedOn, turnsOn}
+use Rattle.run_laws.specs.Run.{RunTables, runOf, On, recordGot, endsNow, RanOn, stoppedOn, turnsOn}
 use Rattle.run_laws.specs.Performed.{Performed, performed, turnedBy}
 use Rattle.run_laws.specs.Tried.{apart, tried, isApart, apart-0, made-of, not-apart, left-of}
 use Rattle.run_laws.specs.Paused.{Paused}
@@ -30,7 +30,7 @@ use Rattle.run_laws.specs.Needs.{Performable}
 use Rattle.run_laws.specs.Reads.{got-end}
 use Rattle.run_laws.specs.Standing.{Standing, place-in, positions-length, number-in}
 use Rattle.run_laws.specs.StepIs.{Went, stayed}
-use Rattle.run_laws.specs.Turning.{Turning, turning-start, line-fits, same-lengths}
+use Rattle.run_laws.specs.Turning.{Turning, turning-start, line-fits, SameLengths, same-lengths}
 use Rattle.run_laws.specs.Running.{Here, positioned, as-positioned, here-positioned, callable, ends, turned-down, goes-on, moved-on, stays-here}
 
 pub record Stretching (c : Counts) (bytes : List ℕ) (n₀ : ℕ) (whole : RanOn) (u₀ : RunTables) (tr₀ : List ℕ) (end at f time r : ℕ) (u : RunTables) (tr : List ℕ) : Type 0 where
@@ -73,12 +73,17 @@ module _ (c : Counts) (bytes : List ℕ) (n₀ : ℕ) (whole : RanOn) (u₀ : Ru
         place-in c bytes (positioned u f r) (s .turning .stands) f (s .here .place-is),
       )
 
-  -- tables of one sheet have one size
-  pub lengths : (length (u .model .links) ≡ length (u₀ .model .links)) × (length (u .model .axis) ≡ length (u₀ .model .axis))
-      × (length (u .model .times) ≡ length (u₀ .model .times)) × (length (u .positions) ≡ length (u₀ .positions)) × (length (u .words) ≡ length (u₀ .words))
+  pub lengths : SameLengths u₀ u
   lengths =
       let e = same-lengths c bytes u₀ (positioned u f r) (s .turning .begun) (s .turning .stands) in
-      (e .0, e .1, e .2, sym (length-set (u .positions) f r) ∙ e .4, e .5)
+      record {
+        links-same = e .links-same;
+        axis-same = e .axis-same;
+        times-same = e .times-same;
+        marks-same = e .marks-same;
+        positions-same = sym (length-set (u .positions) f r) ∙ e .positions-same;
+        words-same = e .words-same;
+      }
 
   pub its-number : c .heads + f < 4294967296
   its-number = number-in c bytes (positioned u f r) (s .turning .stands) f (s .here .place-is)
@@ -110,7 +115,7 @@ module _ (c : Counts) (bytes : List ℕ) (n₀ : ℕ) (whole : RanOn) (u₀ : Ru
             clash (sym y)
 
     pub stopped : (x : Refusal) → p .effect ≡ Refused x → (n : ℕ) → n ≡ at / 16 → (ps : List ℕ) → ps ≡ set (u .positions) f r
-        → Paused c bytes n₀ whole tr₀ (record { model = p .tables; positions = ps; words = p .words }) tr (record { lines = n; pause = Stopped x })
+        → Paused c bytes n₀ whole tr₀ (runOf (p .tables) ps (p .words)) tr (record { lines = n; pause = Stopped x })
     stopped x e n en ps eps =
         record {
           stands = λ z. clash z;
@@ -118,7 +123,7 @@ module _ (c : Counts) (bytes : List ℕ) (n₀ : ℕ) (whole : RanOn) (u₀ : Ru
           more = omega (arith, s .begun, s .even);
           few = omega (arith, s .turning .few);
           left = λ k q.
-              ap (λ (l : List ℕ). stoppedOn n (Ended x) (record { model = p .tables; positions = l; words = p .words }) tr) eps
+              ap (λ (l : List ℕ). stoppedOn n (Ended x) (runOf (p .tables) l (p .words)) tr) eps
               ∙ turned-down c bytes room (at / 16) whole u₀ tr₀ (positioned u f r) tr (s .turning) f time r (s .here) (room-left h) unfinished p made n en x e;
           full = λ z. clash z;
           due = λ z. clash z;
@@ -126,7 +131,7 @@ module _ (c : Counts) (bytes : List ℕ) (n₀ : ℕ) (whole : RanOn) (u₀ : Ru
 
     module _ (next : ℕ) (v : turnedBy (p .effect) (recordGot (c .processes) bytes r .next) ≡ On next) (tr′ : List ℕ) (z : length tr′ ≡ length tr) where
       abbrev after : List ℕ → RunTables
-      after ps = record { model = p .tables; positions = ps; words = p .words }
+      after ps = runOf (p .tables) ps (p .words)
 
       one-more : (at + 16) / 16 ≡ at / 16 + 1
       one-more = omega arith
@@ -189,9 +194,9 @@ module _ (c : Counts) (bytes : List ℕ) (n₀ : ℕ) (whole : RanOn) (u₀ : Ru
 
     -- where there is no room for a line
     pub fills : end ≤ at → (ps : List ℕ) → ps ≡ set (u .positions) f r
-        → Paused c bytes n₀ whole tr₀ (record { model = u .model; positions = ps; words = u .words }) tr (record { lines = n; pause = Full })
+        → Paused c bytes n₀ whole tr₀ (runOf (u .model) ps (u .words)) tr (record { lines = n; pause = Full })
     fills l ps eps =
-        subst (λ (l : List ℕ). Paused c bytes n₀ whole tr₀ (record { model = u .model; positions = l; words = u .words }) tr (record { lines = n; pause = Full })) (sym eps)
+        subst (λ (l : List ℕ). Paused c bytes n₀ whole tr₀ (runOf (u .model) l (u .words)) tr (record { lines = n; pause = Full })) (sym eps)
         (record {
           stands = λ z. s .turning .stands;
           size = s .turning .size;
@@ -205,13 +210,13 @@ module _ (c : Counts) (bytes : List ℕ) (n₀ : ℕ) (whole : RanOn) (u₀ : Ru
     -- and before a call that is made apart
     module _ (h : at < end) (p : Performed) (is : p ≡ tried c (recordGot (c .processes) bytes r) f (u .model) (u .words)) (m : isApart (p .effect) ≡ true) where
       pub waits : (ps : List ℕ) → ps ≡ set (u .positions) f r
-          → Paused c bytes n₀ whole tr₀ (record { model = p .tables; positions = ps; words = p .words }) tr (record { lines = n; pause = Apart })
+          → Paused c bytes n₀ whole tr₀ (runOf (p .tables) ps (p .words)) tr (record { lines = n; pause = Apart })
       waits ps eps =
           let d = left-of c (recordGot (c .processes) bytes r) f (u .model) (u .words) p is m in
-          let same : positioned u f r ≡ record { model = p .tables; positions = ps; words = p .words } =
-          ap (λ (t : Tables). record { model = t; positions = set (u .positions) f r; words = u .words }) (sym (d .1))
-          ∙ ap (λ (w : List ℤ). record { model = p .tables; positions = set (u .positions) f r; words = w }) (sym (d .2))
-          ∙ ap (λ (l : List ℕ). record { model = p .tables; positions = l; words = p .words }) (sym eps) in
+          let same : positioned u f r ≡ runOf (p .tables) ps (p .words) =
+          ap (λ (t : Tables). runOf t (set (u .positions) f r) (u .words)) (sym (d .1))
+          ∙ ap (λ (w : List ℤ). runOf (p .tables) (set (u .positions) f r) w) (sym (d .2))
+          ∙ ap (λ (l : List ℕ). runOf (p .tables) l (p .words)) (sym eps) in
           subst (λ (v : RunTables). Paused c bytes n₀ whole tr₀ v tr (record { lines = n; pause = Apart })) same
           (record {
             stands = λ z. s .turning .stands;

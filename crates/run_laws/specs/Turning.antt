@@ -13,9 +13,9 @@ use Rattle.model_laws.specs.Now.{current, half, firstOf}
 use Rattle.model_laws.specs.Result.{done, refused, Result}
 use Rattle.sheet.specs.Sheet.{countsOf, sheetOf}
 use Rattle.machine.specs.declared.End.the-variants.{Finished, Full, Refused}
-use Rattle.machine.specs.Machine.{Machine, withPosition}
+use Rattle.machine.specs.Machine.{Machine}
 use Rattle.machine.specs.Calls.{perform}
-use Rattle.machine.specs.Steps.{callNow, nextNow}
+use Rattle.machine.specs.Steps.{callNow, movedOn}
 use Rattle.run_laws.specs.OnTables.{Carried, carriedOut}
 use Rattle.run_laws.specs.Run.{RunTables, Turned, On, Off, Stepped, callDue, turnedOf, moved, dueIn, lineIn, stepOn, endsNow, RanOn, stoppedOn, turnsOn}
 use Rattle.run_laws.specs.Standing.{Standing, sized, ready, positions-length, words-length}
@@ -31,7 +31,7 @@ module _ (bytes : List ℕ) (u : RunTables) (i : ℕ) (tr : List ℕ) where
       go : (r : Result Machine) → StepIs bytes (s .ok) (s .machine) u (s .stands) r tr i (stepOn (countsOf bytes) bytes i u tr)
           → Standing (countsOf bytes) bytes (stepOn (countsOf bytes) bytes i u tr .run)
       go (refused q) w = let z : Off q ≡ On next = sym (w .0) ∙ e in let y : false ≡ true = cc in clash y
-      go (done k) w = record { ok = s .ok; counts = refl; machine = withPosition (countsOf bytes) k (current (s .machine .lists)) (nextNow (sheetOf bytes) (s .machine)); stands = w .1 }
+      go (done k) w = record { ok = s .ok; counts = refl; machine = movedOn (sheetOf bytes) (s .machine) k; stands = w .1 }
 
   pub step-standing : (c : Counts) (next : ℕ) → Standing c bytes u → stepOn c bytes i u tr .turned ≡ On next → Standing c bytes (stepOn c bytes i u tr .run)
   step-standing c next s =
@@ -57,20 +57,26 @@ module _ (bytes : List ℕ) (u : RunTables) (i : ℕ) (tr : List ℕ) where
 
 -- ---- tables of one sheet have one size
 
-pub same-lengths : (c : Counts) (bytes : List ℕ) (u v : RunTables) → Standing c bytes u → Standing c bytes v
-    → (length (v .model .links) ≡ length (u .model .links)) × (length (v .model .axis) ≡ length (u .model .axis))
-    × (length (v .model .times) ≡ length (u .model .times)) × (length (v .model .marks) ≡ length (u .model .marks))
-    × (length (v .positions) ≡ length (u .positions)) × (length (v .words) ≡ length (u .words))
+pub record SameLengths (u v : RunTables) : Type 0 where
+  pub links-same : length (v .model .links) ≡ length (u .model .links)
+  pub axis-same : length (v .model .axis) ≡ length (u .model .axis)
+  pub times-same : length (v .model .times) ≡ length (u .model .times)
+  pub marks-same : length (v .model .marks) ≡ length (u .model .marks)
+  pub positions-same : length (v .positions) ≡ length (u .positions)
+  pub words-same : length (v .words) ≡ length (u .words)
+
+pub same-lengths : (c : Counts) (bytes : List ℕ) (u v : RunTables) → Standing c bytes u → Standing c bytes v → SameLengths u v
 same-lengths c bytes u v s w =
     let a = sized c bytes u s .lengths in
-    let b = sized c bytes v w .lengths in (
-      b .links-is ∙ sym (a .links-is),
-      b .axis-is ∙ sym (a .axis-is),
-      b .times-is ∙ sym (a .times-is),
-      b .marks-is ∙ sym (a .marks-is),
-      positions-length c bytes v w ∙ sym (positions-length c bytes u s),
-      words-length c bytes v w ∙ sym (words-length c bytes u s),
-    )
+    let b = sized c bytes v w .lengths in
+    record {
+      links-same = b .links-is ∙ sym (a .links-is);
+      axis-same = b .axis-is ∙ sym (a .axis-is);
+      times-same = b .times-is ∙ sym (a .times-is);
+      marks-same = b .marks-is ∙ sym (a .marks-is);
+      positions-same = positions-length c bytes v w ∙ sym (positions-length c bytes u s);
+      words-same = words-length c bytes v w ∙ sym (words-length c bytes u s);
+    }
 
 -- ---- the loop
 

@@ -17,9 +17,9 @@ use Rattle.trace.specs.Lines.{put}
 use Rattle.trace.specs.Put.{length-put, put-put, length-line}
 use Rattle.machine.specs.declared.End.{End}
 use Rattle.machine.specs.declared.End.the-variants.{Finished, Full, Refused}
-use Rattle.machine.specs.Machine.{Machine, withPosition}
+use Rattle.machine.specs.Machine.{Machine}
 use Rattle.machine.specs.Calls.{perform}
-use Rattle.machine.specs.Steps.{callNow, nextNow, Line, lineNow, Turn, ended, stepped, moving, step}
+use Rattle.machine.specs.Steps.{callNow, Line, lineNow, Turn, ended, stepped, moving, step, movedOn}
 use Rattle.machine.specs.Run.{atEnd, turn, stopped, alsoLine, turns}
 use Rattle.machine.specs.Run as machine
 use Rattle.run_laws.specs.Run.{RunTables, On, Off, Stepped, stepOn, RanOn, stoppedOn, turnsOn}
@@ -94,5 +94,5 @@ module _ (bytes : List ℕ) (ok : accepted bytes ≡ true) where
           let len : length (put tr (16 * n) (bytesOf (lineNow s m))) ≡ length tr = length-put tr (16 * n) (bytesOf (lineNow s m)) (omega (arith, length-line (lineNow s m .time) (lineNow s m .process) (lineNow s m .rec))) in
           let t = put tr (16 * n) (bytesOf (lineNow s m)) in
           rw (w .0)
-          (subst (λ (t : List ℕ). TurnsAre n tr (alsoLine (lineNow s m) (turns s k (withPosition c j (current (m .lists)) (nextNow s m)))) (turnsOn c bytes (suc n) k (o .run) t)) (sym (w .2))
+          (subst (λ (t : List ℕ). TurnsAre n tr (alsoLine (lineNow s m) (turns s k (movedOn s m j))) (turnsOn c bytes (suc n) k (o .run) t)) (sym (w .2))
           (also n tr (lineNow s m) _ _ (omega arith) (f _ (o .run) _ (w .1) (omega arith))))

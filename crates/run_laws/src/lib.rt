@@ -36,3 +36,13 @@ pub struct Stretch {
     pub lines: usize,
     pub pause: Pause,
 }
+
+// What one turn comes to.
+pub enum Turn {
+    // Main was current at position 0.
+    Finished,
+    // A step was made, and its line stands in the trace.
+    Made,
+    // The step was turned down, and nothing has changed.
+    Refused(Refusal),
+}

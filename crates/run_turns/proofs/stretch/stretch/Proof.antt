@@ -160,19 +160,19 @@ place-requires : tie.Need-place-requires Inv-loop μ-loop
 place-requires c κs = in-table _ _ _ _ _ _ _ _ _ _ _ _ _ (at-loop (search) .loop .inv)
 
 same-length : tie.Need-same-length Inv-loop μ-loop
-same-length c = (after-perform (search) .perform .kept .1 .1 .1 .1 .1 .0) ∙ lengths _ _ _ _ _ _ _ _ _ _ _ _ _ (at-loop (search) .loop .inv) .0
+same-length c = (after-perform (search) .perform .kept .1 .1 .1 .1 .1 .0) ∙ lengths _ _ _ _ _ _ _ _ _ _ _ _ _ (at-loop (search) .loop .inv) .links-same
 
 same-length-2 : tie.Need-same-length-2 Inv-loop μ-loop
-same-length-2 c = (after-perform (search) .perform .kept .1 .1 .1 .1 .1 .1 .0) ∙ lengths _ _ _ _ _ _ _ _ _ _ _ _ _ (at-loop (search) .loop .inv) .1
+same-length-2 c = (after-perform (search) .perform .kept .1 .1 .1 .1 .1 .1 .0) ∙ lengths _ _ _ _ _ _ _ _ _ _ _ _ _ (at-loop (search) .loop .inv) .axis-same
 
 same-length-3 : tie.Need-same-length-3 Inv-loop μ-loop
-same-length-3 c = (after-perform (search) .perform .kept .1 .1 .1 .1 .1 .1 .1 .0) ∙ lengths _ _ _ _ _ _ _ _ _ _ _ _ _ (at-loop (search) .loop .inv) .2
+same-length-3 c = (after-perform (search) .perform .kept .1 .1 .1 .1 .1 .1 .1 .0) ∙ lengths _ _ _ _ _ _ _ _ _ _ _ _ _ (at-loop (search) .loop .inv) .times-same
 
 same-length-4 : tie.Need-same-length-4 Inv-loop μ-loop
-same-length-4 c = (c .before .before .place .kept .0) ∙ lengths _ _ _ _ _ _ _ _ _ _ _ _ _ (at-loop (search) .loop .inv) .3
+same-length-4 c = (c .before .before .place .kept .0) ∙ lengths _ _ _ _ _ _ _ _ _ _ _ _ _ (at-loop (search) .loop .inv) .positions-same
 
 same-length-5 : tie.Need-same-length-5 Inv-loop μ-loop
-same-length-5 c = (after-perform (search) .perform .kept .1 .1 .1 .1 .1 .1 .1 .1 .1 .0) ∙ lengths _ _ _ _ _ _ _ _ _ _ _ _ _ (at-loop (search) .loop .inv) .4
+same-length-5 c = (after-perform (search) .perform .kept .1 .1 .1 .1 .1 .1 .1 .1 .1 .0) ∙ lengths _ _ _ _ _ _ _ _ _ _ _ _ _ (at-loop (search) .loop .inv) .words-same
 
 same-length-6 : tie.Need-same-length-6 Inv-loop μ-loop
 same-length-6 c = at-loop (search) .loop .inv .turning .size
@@ -187,19 +187,19 @@ place-requires-2 : tie.Need-place-requires-2 Inv-loop μ-loop
 place-requires-2 c κs = in-table _ _ _ _ _ _ _ _ _ _ _ _ _ (at-loop (search) .loop .inv)
 
 same-length-7 : tie.Need-same-length-7 Inv-loop μ-loop
-same-length-7 c = (after-perform (search) .perform .kept .1 .1 .1 .1 .1 .0) ∙ lengths _ _ _ _ _ _ _ _ _ _ _ _ _ (at-loop (search) .loop .inv) .0
+same-length-7 c = (after-perform (search) .perform .kept .1 .1 .1 .1 .1 .0) ∙ lengths _ _ _ _ _ _ _ _ _ _ _ _ _ (at-loop (search) .loop .inv) .links-same
 
 same-length-8 : tie.Need-same-length-8 Inv-loop μ-loop
-same-length-8 c = (after-perform (search) .perform .kept .1 .1 .1 .1 .1 .1 .0) ∙ lengths _ _ _ _ _ _ _ _ _ _ _ _ _ (at-loop (search) .loop .inv) .1
+same-length-8 c = (after-perform (search) .perform .kept .1 .1 .1 .1 .1 .1 .0) ∙ lengths _ _ _ _ _ _ _ _ _ _ _ _ _ (at-loop (search) .loop .inv) .axis-same
 
 same-length-9 : tie.Need-same-length-9 Inv-loop μ-loop
-same-length-9 c = (after-perform (search) .perform .kept .1 .1 .1 .1 .1 .1 .1 .0) ∙ lengths _ _ _ _ _ _ _ _ _ _ _ _ _ (at-loop (search) .loop .inv) .2
+same-length-9 c = (after-perform (search) .perform .kept .1 .1 .1 .1 .1 .1 .1 .0) ∙ lengths _ _ _ _ _ _ _ _ _ _ _ _ _ (at-loop (search) .loop .inv) .times-same
 
 same-length-10 : tie.Need-same-length-10 Inv-loop μ-loop
-same-length-10 c = (c .before .before .place2 .kept .0) ∙ lengths _ _ _ _ _ _ _ _ _ _ _ _ _ (at-loop (search) .loop .inv) .3
+same-length-10 c = (c .before .before .place2 .kept .0) ∙ lengths _ _ _ _ _ _ _ _ _ _ _ _ _ (at-loop (search) .loop .inv) .positions-same
 
 same-length-11 : tie.Need-same-length-11 Inv-loop μ-loop
-same-length-11 c = (after-perform (search) .perform .kept .1 .1 .1 .1 .1 .1 .1 .1 .1 .0) ∙ lengths _ _ _ _ _ _ _ _ _ _ _ _ _ (at-loop (search) .loop .inv) .4
+same-length-11 c = (after-perform (search) .perform .kept .1 .1 .1 .1 .1 .1 .1 .1 .1 .0) ∙ lengths _ _ _ _ _ _ _ _ _ _ _ _ _ (at-loop (search) .loop .inv) .words-same
 
 same-length-12 : tie.Need-same-length-12 Inv-loop μ-loop
 same-length-12 c = at-loop (search) .loop .inv .turning .size
@@ -211,19 +211,19 @@ place-requires-3 : tie.Need-place-requires-3 Inv-loop μ-loop
 place-requires-3 c κs = in-table _ _ _ _ _ _ _ _ _ _ _ _ _ (c .before .before .loop .inv)
 
 same-length-13 : tie.Need-same-length-13 Inv-loop μ-loop
-same-length-13 c = lengths _ _ _ _ _ _ _ _ _ _ _ _ _ (at-loop (search) .loop .inv) .0
+same-length-13 c = lengths _ _ _ _ _ _ _ _ _ _ _ _ _ (at-loop (search) .loop .inv) .links-same
 
 same-length-14 : tie.Need-same-length-14 Inv-loop μ-loop
-same-length-14 c = lengths _ _ _ _ _ _ _ _ _ _ _ _ _ (at-loop (search) .loop .inv) .1
+same-length-14 c = lengths _ _ _ _ _ _ _ _ _ _ _ _ _ (at-loop (search) .loop .inv) .axis-same
 
 same-length-15 : tie.Need-same-length-15 Inv-loop μ-loop
-same-length-15 c = lengths _ _ _ _ _ _ _ _ _ _ _ _ _ (at-loop (search) .loop .inv) .2
+same-length-15 c = lengths _ _ _ _ _ _ _ _ _ _ _ _ _ (at-loop (search) .loop .inv) .times-same
 
 same-length-16 : tie.Need-same-length-16 Inv-loop μ-loop
-same-length-16 c = (c .before .before .place3 .kept .0) ∙ lengths _ _ _ _ _ _ _ _ _ _ _ _ _ (at-loop (search) .loop .inv) .3
+same-length-16 c = (c .before .before .place3 .kept .0) ∙ lengths _ _ _ _ _ _ _ _ _ _ _ _ _ (at-loop (search) .loop .inv) .positions-same
 
 same-length-17 : tie.Need-same-length-17 Inv-loop μ-loop
-same-length-17 c = lengths _ _ _ _ _ _ _ _ _ _ _ _ _ (at-loop (search) .loop .inv) .4
+same-length-17 c = lengths _ _ _ _ _ _ _ _ _ _ _ _ _ (at-loop (search) .loop .inv) .words-same
 
 same-length-18 : tie.Need-same-length-18 Inv-loop μ-loop
 same-length-18 c = at-loop (search) .loop .inv .turning .size

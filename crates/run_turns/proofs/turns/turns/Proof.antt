@@ -126,22 +126,22 @@ count-requires : tie.Need-count-requires Inv-loop μ-loop
 count-requires c κs = few-lines _ _ _ _ _ _ _ _ _ (at-loop (search) .loop .inv) _ _ _ (after-stretch (search) .stretch .ensures)
 
 same-length : tie.Need-same-length Inv-loop μ-loop
-same-length c = (after-stretch (search) .stretch .kept .1 .1 .0) ∙ same-lengths _ _ _ _ ((at-loop (search) .loop .inv) .begun) ((at-loop (search) .loop .inv) .stands) .0
+same-length c = (after-stretch (search) .stretch .kept .1 .1 .0) ∙ same-lengths _ _ _ _ ((at-loop (search) .loop .inv) .begun) ((at-loop (search) .loop .inv) .stands) .links-same
 
 same-length-2 : tie.Need-same-length-2 Inv-loop μ-loop
-same-length-2 c = (after-stretch (search) .stretch .kept .1 .1 .1 .0) ∙ same-lengths _ _ _ _ ((at-loop (search) .loop .inv) .begun) ((at-loop (search) .loop .inv) .stands) .1
+same-length-2 c = (after-stretch (search) .stretch .kept .1 .1 .1 .0) ∙ same-lengths _ _ _ _ ((at-loop (search) .loop .inv) .begun) ((at-loop (search) .loop .inv) .stands) .axis-same
 
 same-length-3 : tie.Need-same-length-3 Inv-loop μ-loop
-same-length-3 c = (after-stretch (search) .stretch .kept .1 .1 .1 .1 .0) ∙ same-lengths _ _ _ _ ((at-loop (search) .loop .inv) .begun) ((at-loop (search) .loop .inv) .stands) .2
+same-length-3 c = (after-stretch (search) .stretch .kept .1 .1 .1 .1 .0) ∙ same-lengths _ _ _ _ ((at-loop (search) .loop .inv) .begun) ((at-loop (search) .loop .inv) .stands) .times-same
 
 same-length-4 : tie.Need-same-length-4 Inv-loop μ-loop
-same-length-4 c = same-lengths _ _ _ _ ((at-loop (search) .loop .inv) .begun) ((at-loop (search) .loop .inv) .stands) .3
+same-length-4 c = same-lengths _ _ _ _ ((at-loop (search) .loop .inv) .begun) ((at-loop (search) .loop .inv) .stands) .marks-same
 
 same-length-5 : tie.Need-same-length-5 Inv-loop μ-loop
-same-length-5 c = (after-stretch (search) .stretch .kept .1 .1 .1 .1 .1 .1 .0) ∙ same-lengths _ _ _ _ ((at-loop (search) .loop .inv) .begun) ((at-loop (search) .loop .inv) .stands) .4
+same-length-5 c = (after-stretch (search) .stretch .kept .1 .1 .1 .1 .1 .1 .0) ∙ same-lengths _ _ _ _ ((at-loop (search) .loop .inv) .begun) ((at-loop (search) .loop .inv) .stands) .positions-same
 
 same-length-6 : tie.Need-same-length-6 Inv-loop μ-loop
-same-length-6 c = (after-stretch (search) .stretch .kept .1 .1 .1 .1 .1 .1 .1 .0) ∙ same-lengths _ _ _ _ ((at-loop (search) .loop .inv) .begun) ((at-loop (search) .loop .inv) .stands) .5
+same-length-6 c = (after-stretch (search) .stretch .kept .1 .1 .1 .1 .1 .1 .1 .0) ∙ same-lengths _ _ _ _ ((at-loop (search) .loop .inv) .begun) ((at-loop (search) .loop .inv) .stands) .words-same
 
 same-length-7 : tie.Need-same-length-7 Inv-loop μ-loop
 same-length-7 c = (after-stretch (search) .stretch .kept .1 .1 .1 .1 .1 .1 .1 .1 .0) ∙ (at-loop (search) .loop .inv) .size
@@ -165,22 +165,22 @@ count-requires-2 : tie.Need-count-requires-2 Inv-loop μ-loop
 count-requires-2 c κs = few-lines _ _ _ _ _ _ _ _ _ (loop-from-stretch (search) .loop .inv) _ _ _ (after-stretch (search) .stretch .ensures)
 
 same-length-8 : tie.Need-same-length-8 Inv-loop μ-loop
-same-length-8 c = (after-stretch (search) .stretch .kept .1 .1 .0) ∙ same-lengths _ _ _ _ ((loop-from-stretch (search) .loop .inv) .begun) ((loop-from-stretch (search) .loop .inv) .stands) .0
+same-length-8 c = (after-stretch (search) .stretch .kept .1 .1 .0) ∙ same-lengths _ _ _ _ ((loop-from-stretch (search) .loop .inv) .begun) ((loop-from-stretch (search) .loop .inv) .stands) .links-same
 
 same-length-9 : tie.Need-same-length-9 Inv-loop μ-loop
-same-length-9 c = (after-stretch (search) .stretch .kept .1 .1 .1 .0) ∙ same-lengths _ _ _ _ ((loop-from-stretch (search) .loop .inv) .begun) ((loop-from-stretch (search) .loop .inv) .stands) .1
+same-length-9 c = (after-stretch (search) .stretch .kept .1 .1 .1 .0) ∙ same-lengths _ _ _ _ ((loop-from-stretch (search) .loop .inv) .begun) ((loop-from-stretch (search) .loop .inv) .stands) .axis-same
 
 same-length-10 : tie.Need-same-length-10 Inv-loop μ-loop
-same-length-10 c = (after-stretch (search) .stretch .kept .1 .1 .1 .1 .0) ∙ same-lengths _ _ _ _ ((loop-from-stretch (search) .loop .inv) .begun) ((loop-from-stretch (search) .loop .inv) .stands) .2
+same-length-10 c = (after-stretch (search) .stretch .kept .1 .1 .1 .1 .0) ∙ same-lengths _ _ _ _ ((loop-from-stretch (search) .loop .inv) .begun) ((loop-from-stretch (search) .loop .inv) .stands) .times-same
 
 same-length-11 : tie.Need-same-length-11 Inv-loop μ-loop
-same-length-11 c = same-lengths _ _ _ _ ((loop-from-stretch (search) .loop .inv) .begun) ((loop-from-stretch (search) .loop .inv) .stands) .3
+same-length-11 c = same-lengths _ _ _ _ ((loop-from-stretch (search) .loop .inv) .begun) ((loop-from-stretch (search) .loop .inv) .stands) .marks-same
 
 same-length-12 : tie.Need-same-length-12 Inv-loop μ-loop
-same-length-12 c = (after-stretch (search) .stretch .kept .1 .1 .1 .1 .1 .1 .0) ∙ same-lengths _ _ _ _ ((loop-from-stretch (search) .loop .inv) .begun) ((loop-from-stretch (search) .loop .inv) .stands) .4
+same-length-12 c = (after-stretch (search) .stretch .kept .1 .1 .1 .1 .1 .1 .0) ∙ same-lengths _ _ _ _ ((loop-from-stretch (search) .loop .inv) .begun) ((loop-from-stretch (search) .loop .inv) .stands) .positions-same
 
 same-length-13 : tie.Need-same-length-13 Inv-loop μ-loop
-same-length-13 c = (after-stretch (search) .stretch .kept .1 .1 .1 .1 .1 .1 .1 .0) ∙ same-lengths _ _ _ _ ((loop-from-stretch (search) .loop .inv) .begun) ((loop-from-stretch (search) .loop .inv) .stands) .5
+same-length-13 c = (after-stretch (search) .stretch .kept .1 .1 .1 .1 .1 .1 .1 .0) ∙ same-lengths _ _ _ _ ((loop-from-stretch (search) .loop .inv) .begun) ((loop-from-stretch (search) .loop .inv) .stands) .words-same
 
 same-length-14 : tie.Need-same-length-14 Inv-loop μ-loop
 same-length-14 c = (after-stretch (search) .stretch .kept .1 .1 .1 .1 .1 .1 .1 .1 .0) ∙ (loop-from-stretch (search) .loop .inv) .size
@@ -204,22 +204,22 @@ count-requires-3 : tie.Need-count-requires-3 Inv-loop μ-loop
 count-requires-3 c κs = few-lines _ _ _ _ _ _ _ _ _ (loop-from-time-of (search) .loop .inv) _ _ _ (stretch-from-time-of (search) .stretch .ensures)
 
 same-length-15 : tie.Need-same-length-15 Inv-loop μ-loop
-same-length-15 c = (after-perform-apart (search) .perform-apart .kept .1 .1 .1 .1 .0) ∙ (stretch-from-time-of (search) .stretch .kept .1 .1 .0) ∙ same-lengths _ _ _ _ ((loop-from-time-of (search) .loop .inv) .begun) ((loop-from-time-of (search) .loop .inv) .stands) .0
+same-length-15 c = (after-perform-apart (search) .perform-apart .kept .1 .1 .1 .1 .0) ∙ (stretch-from-time-of (search) .stretch .kept .1 .1 .0) ∙ same-lengths _ _ _ _ ((loop-from-time-of (search) .loop .inv) .begun) ((loop-from-time-of (search) .loop .inv) .stands) .links-same
 
 same-length-16 : tie.Need-same-length-16 Inv-loop μ-loop
-same-length-16 c = (after-perform-apart (search) .perform-apart .kept .1 .1 .1 .1 .1 .0) ∙ (stretch-from-time-of (search) .stretch .kept .1 .1 .1 .0) ∙ same-lengths _ _ _ _ ((loop-from-time-of (search) .loop .inv) .begun) ((loop-from-time-of (search) .loop .inv) .stands) .1
+same-length-16 c = (after-perform-apart (search) .perform-apart .kept .1 .1 .1 .1 .1 .0) ∙ (stretch-from-time-of (search) .stretch .kept .1 .1 .1 .0) ∙ same-lengths _ _ _ _ ((loop-from-time-of (search) .loop .inv) .begun) ((loop-from-time-of (search) .loop .inv) .stands) .axis-same
 
 same-length-17 : tie.Need-same-length-17 Inv-loop μ-loop
-same-length-17 c = (after-perform-apart (search) .perform-apart .kept .1 .1 .1 .1 .1 .1 .0) ∙ (stretch-from-time-of (search) .stretch .kept .1 .1 .1 .1 .0) ∙ same-lengths _ _ _ _ ((loop-from-time-of (search) .loop .inv) .begun) ((loop-from-time-of (search) .loop .inv) .stands) .2
+same-length-17 c = (after-perform-apart (search) .perform-apart .kept .1 .1 .1 .1 .1 .1 .0) ∙ (stretch-from-time-of (search) .stretch .kept .1 .1 .1 .1 .0) ∙ same-lengths _ _ _ _ ((loop-from-time-of (search) .loop .inv) .begun) ((loop-from-time-of (search) .loop .inv) .stands) .times-same
 
 same-length-18 : tie.Need-same-length-18 Inv-loop μ-loop
-same-length-18 c = (after-perform-apart (search) .perform-apart .kept .1 .1 .1 .1 .1 .1 .1 .0) ∙ same-lengths _ _ _ _ ((loop-from-time-of (search) .loop .inv) .begun) ((loop-from-time-of (search) .loop .inv) .stands) .3
+same-length-18 c = (after-perform-apart (search) .perform-apart .kept .1 .1 .1 .1 .1 .1 .1 .0) ∙ same-lengths _ _ _ _ ((loop-from-time-of (search) .loop .inv) .begun) ((loop-from-time-of (search) .loop .inv) .stands) .marks-same
 
 same-length-19 : tie.Need-same-length-19 Inv-loop μ-loop
-same-length-19 c = (stretch-from-time-of (search) .stretch .kept .1 .1 .1 .1 .1 .1 .0) ∙ same-lengths _ _ _ _ ((loop-from-time-of (search) .loop .inv) .begun) ((loop-from-time-of (search) .loop .inv) .stands) .4
+same-length-19 c = (stretch-from-time-of (search) .stretch .kept .1 .1 .1 .1 .1 .1 .0) ∙ same-lengths _ _ _ _ ((loop-from-time-of (search) .loop .inv) .begun) ((loop-from-time-of (search) .loop .inv) .stands) .positions-same
 
 same-length-20 : tie.Need-same-length-20 Inv-loop μ-loop
-same-length-20 c = (stretch-from-time-of (search) .stretch .kept .1 .1 .1 .1 .1 .1 .1 .0) ∙ same-lengths _ _ _ _ ((loop-from-time-of (search) .loop .inv) .begun) ((loop-from-time-of (search) .loop .inv) .stands) .5
+same-length-20 c = (stretch-from-time-of (search) .stretch .kept .1 .1 .1 .1 .1 .1 .1 .0) ∙ same-lengths _ _ _ _ ((loop-from-time-of (search) .loop .inv) .begun) ((loop-from-time-of (search) .loop .inv) .stands) .words-same
 
 same-length-21 : tie.Need-same-length-21 Inv-loop μ-loop
 same-length-21 c = (stretch-from-time-of (search) .stretch .kept .1 .1 .1 .1 .1 .1 .1 .1 .0) ∙ (loop-from-time-of (search) .loop .inv) .size
@@ -261,22 +261,22 @@ count-requires-4 : tie.Need-count-requires-4 Inv-loop μ-loop
 count-requires-4 c κs = most-lines _ _ _ _ _ _ _ _ _ (at-loop (search) .loop .inv)
 
 same-length-22 : tie.Need-same-length-22 Inv-loop μ-loop
-same-length-22 c = same-lengths _ _ _ _ ((at-loop (search) .loop .inv) .begun) ((at-loop (search) .loop .inv) .stands) .0
+same-length-22 c = same-lengths _ _ _ _ ((at-loop (search) .loop .inv) .begun) ((at-loop (search) .loop .inv) .stands) .links-same
 
 same-length-23 : tie.Need-same-length-23 Inv-loop μ-loop
-same-length-23 c = same-lengths _ _ _ _ ((at-loop (search) .loop .inv) .begun) ((at-loop (search) .loop .inv) .stands) .1
+same-length-23 c = same-lengths _ _ _ _ ((at-loop (search) .loop .inv) .begun) ((at-loop (search) .loop .inv) .stands) .axis-same
 
 same-length-24 : tie.Need-same-length-24 Inv-loop μ-loop
-same-length-24 c = same-lengths _ _ _ _ ((at-loop (search) .loop .inv) .begun) ((at-loop (search) .loop .inv) .stands) .2
+same-length-24 c = same-lengths _ _ _ _ ((at-loop (search) .loop .inv) .begun) ((at-loop (search) .loop .inv) .stands) .times-same
 
 same-length-25 : tie.Need-same-length-25 Inv-loop μ-loop
-same-length-25 c = same-lengths _ _ _ _ ((at-loop (search) .loop .inv) .begun) ((at-loop (search) .loop .inv) .stands) .3
+same-length-25 c = same-lengths _ _ _ _ ((at-loop (search) .loop .inv) .begun) ((at-loop (search) .loop .inv) .stands) .marks-same
 
 same-length-26 : tie.Need-same-length-26 Inv-loop μ-loop
-same-length-26 c = same-lengths _ _ _ _ ((at-loop (search) .loop .inv) .begun) ((at-loop (search) .loop .inv) .stands) .4
+same-length-26 c = same-lengths _ _ _ _ ((at-loop (search) .loop .inv) .begun) ((at-loop (search) .loop .inv) .stands) .positions-same
 
 same-length-27 : tie.Need-same-length-27 Inv-loop μ-loop
-same-length-27 c = same-lengths _ _ _ _ ((at-loop (search) .loop .inv) .begun) ((at-loop (search) .loop .inv) .stands) .5
+same-length-27 c = same-lengths _ _ _ _ ((at-loop (search) .loop .inv) .begun) ((at-loop (search) .loop .inv) .stands) .words-same
 
 same-length-28 : tie.Need-same-length-28 Inv-loop μ-loop
 same-length-28 c = (at-loop (search) .loop .inv) .size
@@ -288,22 +288,22 @@ count-requires-5 : tie.Need-count-requires-5 Inv-loop μ-loop
 count-requires-5 c κs = most-lines _ _ _ _ _ _ _ _ _ (at-loop (search) .loop .inv)
 
 same-length-29 : tie.Need-same-length-29 Inv-loop μ-loop
-same-length-29 c = same-lengths _ _ _ _ ((at-loop (search) .loop .inv) .begun) ((at-loop (search) .loop .inv) .stands) .0
+same-length-29 c = same-lengths _ _ _ _ ((at-loop (search) .loop .inv) .begun) ((at-loop (search) .loop .inv) .stands) .links-same
 
 same-length-30 : tie.Need-same-length-30 Inv-loop μ-loop
-same-length-30 c = same-lengths _ _ _ _ ((at-loop (search) .loop .inv) .begun) ((at-loop (search) .loop .inv) .stands) .1
+same-length-30 c = same-lengths _ _ _ _ ((at-loop (search) .loop .inv) .begun) ((at-loop (search) .loop .inv) .stands) .axis-same
 
 same-length-31 : tie.Need-same-length-31 Inv-loop μ-loop
-same-length-31 c = same-lengths _ _ _ _ ((at-loop (search) .loop .inv) .begun) ((at-loop (search) .loop .inv) .stands) .2
+same-length-31 c = same-lengths _ _ _ _ ((at-loop (search) .loop .inv) .begun) ((at-loop (search) .loop .inv) .stands) .times-same
 
 same-length-32 : tie.Need-same-length-32 Inv-loop μ-loop
-same-length-32 c = same-lengths _ _ _ _ ((at-loop (search) .loop .inv) .begun) ((at-loop (search) .loop .inv) .stands) .3
+same-length-32 c = same-lengths _ _ _ _ ((at-loop (search) .loop .inv) .begun) ((at-loop (search) .loop .inv) .stands) .marks-same
 
 same-length-33 : tie.Need-same-length-33 Inv-loop μ-loop
-same-length-33 c = same-lengths _ _ _ _ ((at-loop (search) .loop .inv) .begun) ((at-loop (search) .loop .inv) .stands) .4
+same-length-33 c = same-lengths _ _ _ _ ((at-loop (search) .loop .inv) .begun) ((at-loop (search) .loop .inv) .stands) .positions-same
 
 same-length-34 : tie.Need-same-length-34 Inv-loop μ-loop
-same-length-34 c = same-lengths _ _ _ _ ((at-loop (search) .loop .inv) .begun) ((at-loop (search) .loop .inv) .stands) .5
+same-length-34 c = same-lengths _ _ _ _ ((at-loop (search) .loop .inv) .begun) ((at-loop (search) .loop .inv) .stands) .words-same
 
 same-length-35 : tie.Need-same-length-35 Inv-loop μ-loop
 same-length-35 c = (at-loop (search) .loop .inv) .size
