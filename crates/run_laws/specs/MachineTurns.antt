@@ -18,7 +18,7 @@ use Rattle.model_laws.specs.Formed.{notice-each, notice-process}
 use Rattle.model_laws.specs.Once.{spelled-sized}
 use Rattle.model_laws.specs.NowLaws.{splits}
 use Rattle.model_laws.specs.Result.{Follows, done, refused, Result}
-use Rattle.model_laws.specs.Now.{time, current}
+use Rattle.model_laws.specs.Now.{time}
 use Rattle.simulation_laws.specs.Forward.{Later}
 use Rattle.accum_laws.specs.declared.Updated.{Updated}
 use Rattle.accum_laws.specs.declared.Updated.the-variants.{To, Refused as NotUpdated}

@@ -9,14 +9,14 @@ use lib.ListN.{length, getD}
 use Rattle.ring_laws.specs.Lists.{test, clash}
 use Rattle.model.specs.declared.Counts.{Counts}
 use Rattle.model.specs.declared.Refusal.{Refusal}
+use Rattle.model.specs.declared.verdict.Verdict.the-variants.{Fine, Refused as Judged}
 use Rattle.model_laws.specs.Now.{half, firstOf}
 use Rattle.sheet.specs.Sheet.{recordOffset}
 use Rattle.machine.specs.declared.End.the-variants.{Finished, Refused as Ended}
-use Rattle.run_laws.specs.declared.Effect.the-variants.{Refused}
 use Rattle.run_laws.specs.declared.Turn.{Turn}
 use Rattle.run_laws.specs.declared.Turn.the-variants.{Finished as AtEnd, Made, Refused as NotMade}
 use Rattle.run_laws.specs.Run.{RunTables, runOf, Turned, On, Off, Stepped, recordGot, stepOn, endsNow, TurnedOn, turnBy, turnOn, RanOn, stoppedOn}
-use Rattle.run_laws.specs.Performed.{Performed, performed, turnedBy}
+use Rattle.run_laws.specs.Performed.{Performed, performed, verdictBy, goesTo, turned-to, refused-of}
 use Rattle.run_laws.specs.Needs.{Performable}
 use Rattle.run_laws.specs.Reads.{ends-at}
 use Rattle.run_laws.specs.Standing.{Standing, its-step}
@@ -26,35 +26,42 @@ use Rattle.run_laws.specs.Running.{Here, here-at}
 
 -- ---- what the code of a turn leaves, with current's place f, time and record r read off the tables
 
-module _ (c : Counts) (bytes : List ℕ) (i : ℕ) (u : RunTables) (tr : List ℕ) (s : Standing c bytes u)
+module _ (c : Counts) (bytes : List ℕ) (u : RunTables) (s : Standing c bytes u)
     (f : ℕ) (ef : f ≡ firstOf (half c) (u .model .axis)) (r : ℕ) (er : r ≡ getD (u .positions) f 0) where
   at : (time : ℕ) → time ≡ getD (u .model .times) f 0 → Here c u f time r
   at time et = here-at c u f time r ef et er
 
-  ends : (b : Bool) → b ≡ (eqb r 0 && eqb f 1) → b ≡ endsNow c (u .model .axis) (u .positions)
-  ends b = ends-at c (u .model .axis) (u .positions) f ef r b er
+  pub turn-callable : (time : ℕ) → time ≡ getD (u .model .times) f 0 → r ≢ 0
+      → Performable c bytes (recordOffset (c .processes) r) f time (u .model) (u .words)
+  turn-callable time et = its-step c bytes u s f ef r (at time et .record-is) time (at time et .time-is)
 
-  pub turn-finished : (b : Bool) → b ≡ (eqb r 0 && eqb f 1) → b ≡ true → record { run = u; trace = tr; turn = AtEnd } ≡ turnOn c bytes i u tr
-  unfolding turnOn
-  turn-finished b e q = rw (sym (ends b e) ∙ q)
+  module _ (i : ℕ) (tr : List ℕ) (b : Bool) (eb : b ≡ (eqb r 0 && eqb f 1)) where
+    ends : b ≡ endsNow c (u .model .axis) (u .positions)
+    ends = ends-at c (u .model .axis) (u .positions) f ef r b er eb
 
-  module _ (time : ℕ) (et : time ≡ getD (u .model .times) f 0) where
-    pub turn-callable : r ≢ 0 → Performable c bytes (recordOffset (c .processes) r) f time (u .model) (u .words)
-    turn-callable = its-step c bytes u s f ef r (at time et .record-is) time (at time et .time-is)
+    pub turn-finished : b ≡ true → record { run = u; trace = tr; turn = AtEnd } ≡ turnOn c bytes i u tr
+    unfolding turnOn
+    turn-finished q = rw (sym ends ∙ q)
 
-    module _ (b : Bool) (e : b ≡ (eqb r 0 && eqb f 1)) (q : b ≡ false) (p : Performed) (ep : p ≡ performed c (recordGot (c .processes) bytes r) f (u .model) (u .words)) where
-      -- a step, and what it comes to
-      by-step : (o : Stepped) → o ≡ stepOn c bytes i u tr → record { run = o .run; trace = o .trace; turn = turnBy (o .turned) } ≡ turnOn c bytes i u tr
+    module _ (q : b ≡ false) (time : ℕ) (et : time ≡ getD (u .model .times) f 0)
+        (p : Performed) (ep : p ≡ performed c (recordGot (c .processes) bytes r) f (u .model) (u .words)) where
+      by-step : (o : Stepped) → o ≡ stepOn c bytes i u tr
+          → record { run = o .run; trace = o .trace; turn = turnBy (o .turned) } ≡ turnOn c bytes i u tr
       unfolding turnOn
-      by-step o eo = rw (sym (ends b e) ∙ q) (ap (λ (z : Stepped). record { run = z .run; trace = z .trace; turn = turnBy (z .turned) }) eo)
+      by-step o eo =
+          rw (sym ends ∙ q) (ap (λ (z : Stepped). record { run = z .run; trace = z .trace; turn = turnBy (z .turned) }) eo)
 
-      pub turn-off : (x : Refusal) → p .effect ≡ Refused x
+      pub turn-refused : (x : Refusal) → Judged x ≡ verdictBy (p .effect)
           → record { run = runOf (p .tables) (u .positions) (p .words); trace = tr; turn = NotMade x } ≡ turnOn c bytes i u tr
-      turn-off x ex = by-step _ (step-off c bytes i u tr f ef r (at time et .record-is) time (at time et .time-is) p ep x ex)
+      turn-refused x v =
+          by-step _ (step-off c bytes i u tr f ef r (at time et .record-is) time (at time et .time-is) p ep x (refused-of (p .effect) x v))
 
-      pub turn-on : (next : ℕ) → turnedBy (p .effect) (recordGot (c .processes) bytes r .next) ≡ On next → (ps tr′ : List ℕ) → Went c f time r i next (u .positions) tr ps tr′
+      pub turn-made : Fine ≡ verdictBy (p .effect) → (to next : ℕ) → to ≡ recordGot (c .processes) bytes r .next → next ≡ goesTo (p .effect) to
+          → (ps tr′ : List ℕ) → Went c f time r i next (u .positions) tr ps tr′
           → record { run = runOf (p .tables) ps (p .words); trace = tr′; turn = Made } ≡ turnOn c bytes i u tr
-      turn-on next v ps tr′ w = by-step _ (step-on c bytes i u tr f ef r (at time et .record-is) time (at time et .time-is) p ep next v ps tr′ w)
+      turn-made v to next eto en ps tr′ w =
+          by-step _ (step-on c bytes i u tr f ef r (at time et .record-is) time (at time et .time-is) p ep next
+          (turned-to (p .effect) (recordGot (c .processes) bytes r .next) next v (en ∙ ap (goesTo (p .effect)) eto)) ps tr′ w)
 
 -- ---- what a turn makes of those that are left
 

@@ -1,11 +1,13 @@
 -- What the code of a step's call computes: the tables and words after it, and what it means for the process that makes it.
 use Prim.Native.Nat.{ℕ}
-use mathlib.Core.Bool.{Bool, _&&_}
+use mathlib.Core.Path.{_≡_, sym, ap}
+use mathlib.Core.Bool.{Bool, true, false, _&&_}
 use mathlib.Core.List.{List}
 use lib.Dec.{eqb}
 use lib.IntN.{ℤ}
-use Rattle.ring_laws.specs.Lists.{if_then_else_}
+use Rattle.ring_laws.specs.Lists.{clash, if_then_else_}
 use Rattle.model.specs.declared.Counts.{Counts}
+use Rattle.model.specs.declared.Refusal.{Refusal}
 use Rattle.model.specs.Counts.{isHead}
 use Rattle.model.specs.declared.answer.Answer.{Answer}
 use Rattle.model.specs.declared.answer.Answer.the-variants.{Done, Linkage, Number, Truth, Refused as NotDone}
@@ -92,3 +94,25 @@ turnedBy (Jumps y) next = On y
 turnedBy Moves next = On next
 turnedBy (Refused r) next = Off r
 turnedBy Apart next = On next
+
+-- the record where it then is
+abbrev pub goesTo : Effect → ℕ → ℕ
+goesTo Stays next = next
+goesTo (Jumps y) next = y
+goesTo Moves next = next
+goesTo (Refused r) next = next
+goesTo Apart next = next
+
+pub turned-to : (e : Effect) (next n : ℕ) → Fine ≡ verdictBy e → n ≡ goesTo e next → turnedBy e next ≡ On n
+turned-to Stays next n h g = ap On (sym g)
+turned-to (Jumps y) next n h g = ap On (sym g)
+turned-to Moves next n h g = ap On (sym g)
+turned-to (Refused r) next n h g = let y : false ≡ true = cc in clash y
+turned-to Apart next n h g = ap On (sym g)
+
+pub refused-of : (e : Effect) (x : Refusal) → Judged x ≡ verdictBy e → e ≡ Refused x
+refused-of Stays x h = let y : false ≡ true = cc in clash y
+refused-of (Jumps z) x h = let y : false ≡ true = cc in clash y
+refused-of Moves x h = let y : false ≡ true = cc in clash y
+refused-of (Refused r) x h = let y : r ≡ x = cc in ap Refused y
+refused-of Apart x h = let y : false ≡ true = cc in clash y

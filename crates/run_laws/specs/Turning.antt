@@ -9,7 +9,7 @@ use lib.Seq.{getD-set-same}
 use Rattle.ring_laws.specs.Lists.{clash}
 use Rattle.model.specs.declared.Counts.{Counts}
 use Rattle.model.specs.declared.Refusal.{Refusal}
-use Rattle.model_laws.specs.Now.{current, half, firstOf}
+use Rattle.model_laws.specs.Now.{half, firstOf}
 use Rattle.model_laws.specs.Result.{done, refused, Result}
 use Rattle.sheet.specs.Sheet.{countsOf, sheetOf}
 use Rattle.machine.specs.declared.End.the-variants.{Finished, Full, Refused}

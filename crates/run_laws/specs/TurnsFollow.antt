@@ -10,7 +10,6 @@ use Rattle.ring_laws.specs.Lists.{test}
 use Rattle.ring_laws.specs.Distinct.{joined}
 use Rattle.model.specs.declared.Counts.{Counts}
 use Rattle.model_laws.specs.Result.{done, refused, Result}
-use Rattle.model_laws.specs.Now.{current}
 use Rattle.sheet.specs.Sheet.{countsOf, recordsOf, Sheet, sheetOf}
 use Rattle.sheet.specs.Accepted.{accepted}
 use Rattle.trace.specs.Lines.{put}

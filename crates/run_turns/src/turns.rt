@@ -1,19 +1,15 @@
 // Turn after turn on judged tables, until main has finished, the trace is full or a step is refused: stretches of turns, and between them
-// a turn whose call is made apart.
+// a turn whose call no stretch makes.
 use crate::stretch::stretch;
+use crate::turn::turn;
 use machine::End;
 use model::Counts;
-use model::verdict::Verdict;
 use run_laws::Pause;
 use run_laws::Ran;
-use run_step::apart::perform_apart;
-use run_step::apart::verdict_of;
-use run_step::move_on;
+use run_laws::Turn;
 use run_step::reading::is_end;
-use run_step::reading::next_of;
 use run_step::reading::place_now;
 use run_step::reading::record_of;
-use run_step::reading::time_of;
 ghost use mathlib.Core.Path.{_≡_};
 ghost use Prim.Native.Nat.{_/_, _≤_};
 ghost use lib.ListN.{length};
@@ -69,31 +65,34 @@ pub fn turns(
                     end: End::Refused(q),
                 };
             }
-            Pause::Apart => {
-                let f = place_now(c, axis);
-                let r = record_of(positions, f);
-                if is_end(f, r) {
+            Pause::Apart => match turn(
+                c,
+                sheet,
+                links,
+                axis,
+                times,
+                marks,
+                positions,
+                accums,
+                trace,
+                16 * n,
+            ) {
+                Turn::Finished => {
                     return Ran {
                         lines: count(n),
                         end: End::Finished,
                     };
                 }
-                let time = time_of(times, f);
-                let e = perform_apart(c, sheet, r, f, links, axis, times, marks);
-                match verdict_of(e) {
-                    Verdict::Refused(q) => {
-                        return Ran {
-                            lines: count(n),
-                            end: End::Refused(q),
-                        };
-                    }
-                    Verdict::Fine => {
-                        let next = next_of(sheet, c.processes, r);
-                        move_on(c, positions, trace, f, time, r, 16 * n, next);
-                        n += 1;
-                    }
+                Turn::Refused(q) => {
+                    return Ran {
+                        lines: count(n),
+                        end: End::Refused(q),
+                    };
                 }
-            }
+                Turn::Made => {
+                    n += 1;
+                }
+            },
         }
     }
     let f = place_now(c, axis);

@@ -4,11 +4,12 @@ use mathlib.Core.Bool.{_||_}
 use lib.ListN.{length}
 use Rattle.run_laws.specs.declared.Pause.{Pause}
 use Rattle.run_laws.specs.Run.{lent, turnsOn}
-use Rattle.run_laws.specs.Standing.{ready, its-judged, in-positions, in-times, number-in}
-use Rattle.run_laws.specs.Turning.{Turning, turning-start, most-lines, line-fits, in-finished, out-finished, out-full, same-lengths}
+use Rattle.run_laws.specs.Standing.{its-judged, in-positions}
+use Rattle.run_laws.specs.Turning.{Turning, turning-start, most-lines, line-fits, out-finished, out-full, same-lengths}
 use Rattle.run_laws.specs.Running.{here-at, ends}
 use Rattle.run_laws.specs.Paused.{isFull, isDue}
-use Rattle.run_laws.specs.Between.{paused-on, paused-off, few-lines, due-on, due-room, due-call, due-apart, due-ends, apart-down, apart-on}
+use Rattle.run_laws.specs.Between.{paused-on, paused-off, few-lines, due-on, due-room}
+use Rattle.run_laws.specs.OneTurn.{turned-finished, turned-refused, turned-made}
 use borrow.Author.Needs.{needs}
 use native.Mathlib.Omega.{arith}
 use Rattle.run_turns.proofs.turns.turns.Statement.{statement}
@@ -41,68 +42,26 @@ after-stretch x = x
 abbrev after-enum-told2 : tie.After-enum-told2 Inv-loop μ-loop → tie.After-enum-told2 Inv-loop μ-loop
 after-enum-told2 x = x
 
+abbrev after-turn : tie.After-turn Inv-loop μ-loop → tie.After-turn Inv-loop μ-loop
+after-turn x = x
+
 abbrev after-place-now : tie.After-place-now Inv-loop μ-loop → tie.After-place-now Inv-loop μ-loop
 after-place-now x = x
 
 abbrev after-record-of : tie.After-record-of Inv-loop μ-loop → tie.After-record-of Inv-loop μ-loop
 after-record-of x = x
 
-abbrev after-is-end : tie.After-is-end Inv-loop μ-loop → tie.After-is-end Inv-loop μ-loop
-after-is-end x = x
+abbrev loop-from-turn-arg : tie.After-turn-arg Inv-loop μ-loop → tie.At-loop Inv-loop μ-loop
+loop-from-turn-arg x = x .before .before .before .before .before .before .before .before .before .before .before .before .before .before .before .before .before .before .before .before .before .before .before
 
-abbrev else1 : tie.Else1 Inv-loop μ-loop → tie.Else1 Inv-loop μ-loop
-else1 x = x
+abbrev in-loop-from-turn-arg : tie.After-turn-arg Inv-loop μ-loop → tie.In-loop Inv-loop μ-loop
+in-loop-from-turn-arg x = x .before .before .before .before .before .before .before .before .before .before .before .before .before .before .before .before .before .before .before .before .before .before
 
-abbrev after-time-of : tie.After-time-of Inv-loop μ-loop → tie.After-time-of Inv-loop μ-loop
-after-time-of x = x
+abbrev stretch-from-turn-arg : tie.After-turn-arg Inv-loop μ-loop → tie.After-stretch Inv-loop μ-loop
+stretch-from-turn-arg x = x .before .before .before .before .before .before .before .before .before .before .before .before .before .before
 
-abbrev after-perform-apart : tie.After-perform-apart Inv-loop μ-loop → tie.After-perform-apart Inv-loop μ-loop
-after-perform-apart x = x
-
-abbrev after-verdict-of : tie.After-verdict-of Inv-loop μ-loop → tie.After-verdict-of Inv-loop μ-loop
-after-verdict-of x = x
-
-abbrev after-enum-told3 : tie.After-enum-told3 Inv-loop μ-loop → tie.After-enum-told3 Inv-loop μ-loop
-after-enum-told3 x = x
-
-abbrev after-next-of : tie.After-next-of Inv-loop μ-loop → tie.After-next-of Inv-loop μ-loop
-after-next-of x = x
-
-abbrev after-move-on : tie.After-move-on Inv-loop μ-loop → tie.After-move-on Inv-loop μ-loop
-after-move-on x = x
-
-abbrev after-place-now2 : tie.After-place-now2 Inv-loop μ-loop → tie.After-place-now2 Inv-loop μ-loop
-after-place-now2 x = x
-
-abbrev after-record-of2 : tie.After-record-of2 Inv-loop μ-loop → tie.After-record-of2 Inv-loop μ-loop
-after-record-of2 x = x
-
-abbrev loop-from-stretch : tie.After-stretch Inv-loop μ-loop → tie.At-loop Inv-loop μ-loop
-loop-from-stretch x = x .before .before .before .before .before .before .before .before .before
-
-abbrev loop-from-time-of : tie.After-time-of Inv-loop μ-loop → tie.At-loop Inv-loop μ-loop
-loop-from-time-of x = x .before .before .before .before .before .before .before .before .before .before .before .before .before .before .before .before .before .before .before .before .before .before .before .before .before .before .before .before .before .before
-
-abbrev in-loop-from-time-of : tie.After-time-of Inv-loop μ-loop → tie.In-loop Inv-loop μ-loop
-in-loop-from-time-of x = x .before .before .before .before .before .before .before .before .before .before .before .before .before .before .before .before .before .before .before .before .before .before .before .before .before .before .before .before .before
-
-abbrev stretch-from-time-of : tie.After-time-of Inv-loop μ-loop → tie.After-stretch Inv-loop μ-loop
-stretch-from-time-of x = x .before .before .before .before .before .before .before .before .before .before .before .before .before .before .before .before .before .before .before .before .before
-
-abbrev enum-told2-from-time-of : tie.After-time-of Inv-loop μ-loop → tie.After-enum-told2 Inv-loop μ-loop
-enum-told2-from-time-of x = x .before .before .before .before .before .before .before .before
-
-abbrev place-now-from-time-of : tie.After-time-of Inv-loop μ-loop → tie.After-place-now Inv-loop μ-loop
-place-now-from-time-of x = x .before .before .before .before .before .before
-
-abbrev record-of-from-time-of : tie.After-time-of Inv-loop μ-loop → tie.After-record-of Inv-loop μ-loop
-record-of-from-time-of x = x .before .before .before .before
-
-abbrev is-end-from-time-of : tie.After-time-of Inv-loop μ-loop → tie.After-is-end Inv-loop μ-loop
-is-end-from-time-of x = x .before .before .before
-
-abbrev else1-from-time-of : tie.After-time-of Inv-loop μ-loop → tie.Else1 Inv-loop μ-loop
-else1-from-time-of x = x .before .before
+abbrev enum-told2-from-turn-arg : tie.After-turn-arg Inv-loop μ-loop → tie.After-enum-told2 Inv-loop μ-loop
+enum-told2-from-turn-arg x = x .before
 
 loop-holds : tie.Need-loop-holds Inv-loop μ-loop
 loop-holds c = turning-start _ _ _ _ _ _ (start (search) .pre .0) (start (search) .pre .1) (omega arith)
@@ -152,110 +111,92 @@ returns c = paused-off _ _ _ _ _ _ _ _ _ (at-loop (search) .loop .inv) _ _ _ (af
 enum-told-2 : tie.Need-enum-told-2 Inv-loop μ-loop
 enum-told-2 c = search needs
 
-place-now-requires : tie.Need-place-now-requires Inv-loop μ-loop
-place-now-requires c κs = its-judged _ _ _ ((due-on _ _ _ _ _ _ _ _ _ (at-loop (search) .loop .inv) _ _ _ (after-stretch (search) .stretch .ensures) (ap isDue (c .before .enum-told2 .given .1))) .stands)
+mul-turn : tie.Need-mul-turn Inv-loop μ-loop
+mul-turn c = omega (arith, few-lines _ _ _ _ _ _ _ _ _ (loop-from-turn-arg (search) .loop .inv) _ _ _ (after-stretch (search) .stretch .ensures))
 
-record-of-requires : tie.Need-record-of-requires Inv-loop μ-loop
-record-of-requires c κs = in-positions _ _ _ ((due-on _ _ _ _ _ _ _ _ _ (loop-from-stretch (search) .loop .inv) _ _ _ (after-stretch (search) .stretch .ensures) (ap isDue (after-enum-told2 (search) .enum-told2 .given .1))) .stands) _ (c .before .place-now .ensures)
+turn-requires : tie.Need-turn-requires Inv-loop μ-loop
+turn-requires c κs = ((due-on _ _ _ _ _ _ _ _ _ (loop-from-turn-arg (search) .loop .inv) _ _ _ (after-stretch (search) .stretch .ensures) (ap isDue (after-enum-told2 (search) .enum-told2 .given .1))) .stands, line-fits _ _ _ _ _ _ _ _ _ (due-on _ _ _ _ _ _ _ _ _ (loop-from-turn-arg (search) .loop .inv) _ _ _ (after-stretch (search) .stretch .ensures) (ap isDue (after-enum-told2 (search) .enum-told2 .given .1))) (due-room _ _ _ _ _ _ _ _ _ (loop-from-turn-arg (search) .loop .inv) _ _ _ (after-stretch (search) .stretch .ensures) (ap isDue (after-enum-told2 (search) .enum-told2 .given .1))))
 
-is-end-requires : tie.Need-is-end-requires Inv-loop μ-loop
-is-end-requires c κs = search needs
+enum-told-3 : tie.Need-enum-told-3 Inv-loop μ-loop
+enum-told-3 c = search needs
 
 count-requires-2 : tie.Need-count-requires-2 Inv-loop μ-loop
-count-requires-2 c κs = few-lines _ _ _ _ _ _ _ _ _ (loop-from-stretch (search) .loop .inv) _ _ _ (after-stretch (search) .stretch .ensures)
+count-requires-2 c κs = few-lines _ _ _ _ _ _ _ _ _ (loop-from-turn-arg (search) .loop .inv) _ _ _ (stretch-from-turn-arg (search) .stretch .ensures)
 
 same-length-8 : tie.Need-same-length-8 Inv-loop μ-loop
-same-length-8 c = (after-stretch (search) .stretch .kept .1 .1 .0) ∙ same-lengths _ _ _ _ ((loop-from-stretch (search) .loop .inv) .begun) ((loop-from-stretch (search) .loop .inv) .stands) .links-same
+same-length-8 c = (after-turn (search) .turn .kept .1 .1 .0) ∙ (stretch-from-turn-arg (search) .stretch .kept .1 .1 .0) ∙ same-lengths _ _ _ _ ((loop-from-turn-arg (search) .loop .inv) .begun) ((loop-from-turn-arg (search) .loop .inv) .stands) .links-same
 
 same-length-9 : tie.Need-same-length-9 Inv-loop μ-loop
-same-length-9 c = (after-stretch (search) .stretch .kept .1 .1 .1 .0) ∙ same-lengths _ _ _ _ ((loop-from-stretch (search) .loop .inv) .begun) ((loop-from-stretch (search) .loop .inv) .stands) .axis-same
+same-length-9 c = (after-turn (search) .turn .kept .1 .1 .1 .0) ∙ (stretch-from-turn-arg (search) .stretch .kept .1 .1 .1 .0) ∙ same-lengths _ _ _ _ ((loop-from-turn-arg (search) .loop .inv) .begun) ((loop-from-turn-arg (search) .loop .inv) .stands) .axis-same
 
 same-length-10 : tie.Need-same-length-10 Inv-loop μ-loop
-same-length-10 c = (after-stretch (search) .stretch .kept .1 .1 .1 .1 .0) ∙ same-lengths _ _ _ _ ((loop-from-stretch (search) .loop .inv) .begun) ((loop-from-stretch (search) .loop .inv) .stands) .times-same
+same-length-10 c = (after-turn (search) .turn .kept .1 .1 .1 .1 .0) ∙ (stretch-from-turn-arg (search) .stretch .kept .1 .1 .1 .1 .0) ∙ same-lengths _ _ _ _ ((loop-from-turn-arg (search) .loop .inv) .begun) ((loop-from-turn-arg (search) .loop .inv) .stands) .times-same
 
 same-length-11 : tie.Need-same-length-11 Inv-loop μ-loop
-same-length-11 c = same-lengths _ _ _ _ ((loop-from-stretch (search) .loop .inv) .begun) ((loop-from-stretch (search) .loop .inv) .stands) .marks-same
+same-length-11 c = (after-turn (search) .turn .kept .1 .1 .1 .1 .1 .0) ∙ same-lengths _ _ _ _ ((loop-from-turn-arg (search) .loop .inv) .begun) ((loop-from-turn-arg (search) .loop .inv) .stands) .marks-same
 
 same-length-12 : tie.Need-same-length-12 Inv-loop μ-loop
-same-length-12 c = (after-stretch (search) .stretch .kept .1 .1 .1 .1 .1 .1 .0) ∙ same-lengths _ _ _ _ ((loop-from-stretch (search) .loop .inv) .begun) ((loop-from-stretch (search) .loop .inv) .stands) .positions-same
+same-length-12 c = (after-turn (search) .turn .kept .1 .1 .1 .1 .1 .1 .0) ∙ (stretch-from-turn-arg (search) .stretch .kept .1 .1 .1 .1 .1 .1 .0) ∙ same-lengths _ _ _ _ ((loop-from-turn-arg (search) .loop .inv) .begun) ((loop-from-turn-arg (search) .loop .inv) .stands) .positions-same
 
 same-length-13 : tie.Need-same-length-13 Inv-loop μ-loop
-same-length-13 c = (after-stretch (search) .stretch .kept .1 .1 .1 .1 .1 .1 .1 .0) ∙ same-lengths _ _ _ _ ((loop-from-stretch (search) .loop .inv) .begun) ((loop-from-stretch (search) .loop .inv) .stands) .words-same
+same-length-13 c = (after-turn (search) .turn .kept .1 .1 .1 .1 .1 .1 .1 .0) ∙ (stretch-from-turn-arg (search) .stretch .kept .1 .1 .1 .1 .1 .1 .1 .0) ∙ same-lengths _ _ _ _ ((loop-from-turn-arg (search) .loop .inv) .begun) ((loop-from-turn-arg (search) .loop .inv) .stands) .words-same
 
 same-length-14 : tie.Need-same-length-14 Inv-loop μ-loop
-same-length-14 c = (after-stretch (search) .stretch .kept .1 .1 .1 .1 .1 .1 .1 .1 .0) ∙ (loop-from-stretch (search) .loop .inv) .size
+same-length-14 c = (after-turn (search) .turn .kept .1 .1 .1 .1 .1 .1 .1 .1 .0) ∙ (stretch-from-turn-arg (search) .stretch .kept .1 .1 .1 .1 .1 .1 .1 .1 .0) ∙ (loop-from-turn-arg (search) .loop .inv) .size
 
 returns-2 : tie.Need-returns-2 Inv-loop μ-loop
-returns-2 c = in-finished _ _ _ _ _ _ _ _ _ (due-on _ _ _ _ _ _ _ _ _ (loop-from-stretch (search) .loop .inv) _ _ _ (after-stretch (search) .stretch .ensures) (ap isDue (after-enum-told2 (search) .enum-told2 .given .1))) (due-room _ _ _ _ _ _ _ _ _ (loop-from-stretch (search) .loop .inv) _ _ _ (after-stretch (search) .stretch .ensures) (ap isDue (after-enum-told2 (search) .enum-told2 .given .1))) _ (c .count2 .ensures) (sym (due-ends _ _ _ _ _ _ _ _ _ (loop-from-stretch (search) .loop .inv) _ _ _ (after-stretch (search) .stretch .ensures) (ap isDue (after-enum-told2 (search) .enum-told2 .given .1)) _ _ (after-place-now (search) .place-now .ensures) (after-record-of (search) .record-of .ensures) _ (c .before .before .is-end .ensures)) ∙ c .before .if1 .taken)
-
-time-of-requires : tie.Need-time-of-requires Inv-loop μ-loop
-time-of-requires c κs = in-times _ _ _ ((due-on _ _ _ _ _ _ _ _ _ (loop-from-stretch (search) .loop .inv) _ _ _ (after-stretch (search) .stretch .ensures) (ap isDue (after-enum-told2 (search) .enum-told2 .given .1))) .stands) _ (after-place-now (search) .place-now .ensures)
-
-perform-apart-requires : tie.Need-perform-apart-requires Inv-loop μ-loop
-perform-apart-requires c κs = (due-call _ _ _ _ _ _ _ _ _ (loop-from-time-of (search) .loop .inv) _ _ _ (stretch-from-time-of (search) .stretch .ensures) (ap isDue (after-enum-told2 (search) .enum-told2 .given .1)) _ _ (after-place-now (search) .place-now .ensures) (after-record-of (search) .record-of .ensures), (ready _ _ _ ((due-on _ _ _ _ _ _ _ _ _ (loop-from-time-of (search) .loop .inv) _ _ _ (stretch-from-time-of (search) .stretch .ensures) (ap isDue (after-enum-told2 (search) .enum-told2 .given .1))) .stands), due-apart _ _ _ _ _ _ _ _ _ (loop-from-time-of (search) .loop .inv) _ _ _ (stretch-from-time-of (search) .stretch .ensures) (ap isDue (after-enum-told2 (search) .enum-told2 .given .1)) _ _ (after-place-now (search) .place-now .ensures) (after-record-of (search) .record-of .ensures)))
-
-verdict-of-requires : tie.Need-verdict-of-requires Inv-loop μ-loop
-verdict-of-requires c κs = search needs
+returns-2 c = turned-finished _ _ _ _ _ _ _ _ _ (due-on _ _ _ _ _ _ _ _ _ (loop-from-turn-arg (search) .loop .inv) _ _ _ (stretch-from-turn-arg (search) .stretch .ensures) (ap isDue (after-enum-told2 (search) .enum-told2 .given .1))) (due-room _ _ _ _ _ _ _ _ _ (loop-from-turn-arg (search) .loop .inv) _ _ _ (stretch-from-turn-arg (search) .stretch .ensures) (ap isDue (after-enum-told2 (search) .enum-told2 .given .1))) _ (after-turn (search) .turn .ensures) _ (c .count2 .ensures) (c .before .enum-told3 .given .1)
 
 enum-known-q : tie.Need-enum-known-q Inv-loop μ-loop
 enum-known-q c = search needs
 
 count-requires-3 : tie.Need-count-requires-3 Inv-loop μ-loop
-count-requires-3 c κs = few-lines _ _ _ _ _ _ _ _ _ (loop-from-time-of (search) .loop .inv) _ _ _ (stretch-from-time-of (search) .stretch .ensures)
+count-requires-3 c κs = few-lines _ _ _ _ _ _ _ _ _ (loop-from-turn-arg (search) .loop .inv) _ _ _ (stretch-from-turn-arg (search) .stretch .ensures)
 
 same-length-15 : tie.Need-same-length-15 Inv-loop μ-loop
-same-length-15 c = (after-perform-apart (search) .perform-apart .kept .1 .1 .1 .1 .0) ∙ (stretch-from-time-of (search) .stretch .kept .1 .1 .0) ∙ same-lengths _ _ _ _ ((loop-from-time-of (search) .loop .inv) .begun) ((loop-from-time-of (search) .loop .inv) .stands) .links-same
+same-length-15 c = (after-turn (search) .turn .kept .1 .1 .0) ∙ (stretch-from-turn-arg (search) .stretch .kept .1 .1 .0) ∙ same-lengths _ _ _ _ ((loop-from-turn-arg (search) .loop .inv) .begun) ((loop-from-turn-arg (search) .loop .inv) .stands) .links-same
 
 same-length-16 : tie.Need-same-length-16 Inv-loop μ-loop
-same-length-16 c = (after-perform-apart (search) .perform-apart .kept .1 .1 .1 .1 .1 .0) ∙ (stretch-from-time-of (search) .stretch .kept .1 .1 .1 .0) ∙ same-lengths _ _ _ _ ((loop-from-time-of (search) .loop .inv) .begun) ((loop-from-time-of (search) .loop .inv) .stands) .axis-same
+same-length-16 c = (after-turn (search) .turn .kept .1 .1 .1 .0) ∙ (stretch-from-turn-arg (search) .stretch .kept .1 .1 .1 .0) ∙ same-lengths _ _ _ _ ((loop-from-turn-arg (search) .loop .inv) .begun) ((loop-from-turn-arg (search) .loop .inv) .stands) .axis-same
 
 same-length-17 : tie.Need-same-length-17 Inv-loop μ-loop
-same-length-17 c = (after-perform-apart (search) .perform-apart .kept .1 .1 .1 .1 .1 .1 .0) ∙ (stretch-from-time-of (search) .stretch .kept .1 .1 .1 .1 .0) ∙ same-lengths _ _ _ _ ((loop-from-time-of (search) .loop .inv) .begun) ((loop-from-time-of (search) .loop .inv) .stands) .times-same
+same-length-17 c = (after-turn (search) .turn .kept .1 .1 .1 .1 .0) ∙ (stretch-from-turn-arg (search) .stretch .kept .1 .1 .1 .1 .0) ∙ same-lengths _ _ _ _ ((loop-from-turn-arg (search) .loop .inv) .begun) ((loop-from-turn-arg (search) .loop .inv) .stands) .times-same
 
 same-length-18 : tie.Need-same-length-18 Inv-loop μ-loop
-same-length-18 c = (after-perform-apart (search) .perform-apart .kept .1 .1 .1 .1 .1 .1 .1 .0) ∙ same-lengths _ _ _ _ ((loop-from-time-of (search) .loop .inv) .begun) ((loop-from-time-of (search) .loop .inv) .stands) .marks-same
+same-length-18 c = (after-turn (search) .turn .kept .1 .1 .1 .1 .1 .0) ∙ same-lengths _ _ _ _ ((loop-from-turn-arg (search) .loop .inv) .begun) ((loop-from-turn-arg (search) .loop .inv) .stands) .marks-same
 
 same-length-19 : tie.Need-same-length-19 Inv-loop μ-loop
-same-length-19 c = (stretch-from-time-of (search) .stretch .kept .1 .1 .1 .1 .1 .1 .0) ∙ same-lengths _ _ _ _ ((loop-from-time-of (search) .loop .inv) .begun) ((loop-from-time-of (search) .loop .inv) .stands) .positions-same
+same-length-19 c = (after-turn (search) .turn .kept .1 .1 .1 .1 .1 .1 .0) ∙ (stretch-from-turn-arg (search) .stretch .kept .1 .1 .1 .1 .1 .1 .0) ∙ same-lengths _ _ _ _ ((loop-from-turn-arg (search) .loop .inv) .begun) ((loop-from-turn-arg (search) .loop .inv) .stands) .positions-same
 
 same-length-20 : tie.Need-same-length-20 Inv-loop μ-loop
-same-length-20 c = (stretch-from-time-of (search) .stretch .kept .1 .1 .1 .1 .1 .1 .1 .0) ∙ same-lengths _ _ _ _ ((loop-from-time-of (search) .loop .inv) .begun) ((loop-from-time-of (search) .loop .inv) .stands) .words-same
+same-length-20 c = (after-turn (search) .turn .kept .1 .1 .1 .1 .1 .1 .1 .0) ∙ (stretch-from-turn-arg (search) .stretch .kept .1 .1 .1 .1 .1 .1 .1 .0) ∙ same-lengths _ _ _ _ ((loop-from-turn-arg (search) .loop .inv) .begun) ((loop-from-turn-arg (search) .loop .inv) .stands) .words-same
 
 same-length-21 : tie.Need-same-length-21 Inv-loop μ-loop
-same-length-21 c = (stretch-from-time-of (search) .stretch .kept .1 .1 .1 .1 .1 .1 .1 .1 .0) ∙ (loop-from-time-of (search) .loop .inv) .size
+same-length-21 c = (after-turn (search) .turn .kept .1 .1 .1 .1 .1 .1 .1 .1 .0) ∙ (stretch-from-turn-arg (search) .stretch .kept .1 .1 .1 .1 .1 .1 .1 .1 .0) ∙ (loop-from-turn-arg (search) .loop .inv) .size
 
 returns-3 : tie.Need-returns-3 Inv-loop μ-loop
-returns-3 c = apart-down _ _ _ _ _ _ _ _ _ (loop-from-time-of (search) .loop .inv) _ _ _ (stretch-from-time-of (search) .stretch .ensures) (ap isDue (enum-told2-from-time-of (search) .enum-told2 .given .1)) _ _ (after-place-now (search) .place-now .ensures) (after-record-of (search) .record-of .ensures) (sym (due-ends _ _ _ _ _ _ _ _ _ (loop-from-time-of (search) .loop .inv) _ _ _ (stretch-from-time-of (search) .stretch .ensures) (ap isDue (enum-told2-from-time-of (search) .enum-told2 .given .1)) _ _ (after-place-now (search) .place-now .ensures) (after-record-of (search) .record-of .ensures) _ (after-is-end (search) .is-end .ensures)) ∙ else1 (search) .if1 .left) _ (after-time-of (search) .time-of .ensures) _ (after-perform-apart (search) .perform-apart .ensures _) _ (c .count3 .ensures) _ (sym (c .before .before .q .given .1) ∙ after-verdict-of (search) .verdict-of .ensures)
+returns-3 c = turned-refused _ _ _ _ _ _ _ _ _ (due-on _ _ _ _ _ _ _ _ _ (loop-from-turn-arg (search) .loop .inv) _ _ _ (stretch-from-turn-arg (search) .stretch .ensures) (ap isDue (enum-told2-from-turn-arg (search) .enum-told2 .given .1))) (due-room _ _ _ _ _ _ _ _ _ (loop-from-turn-arg (search) .loop .inv) _ _ _ (stretch-from-turn-arg (search) .stretch .ensures) (ap isDue (enum-told2-from-turn-arg (search) .enum-told2 .given .1))) _ (after-turn (search) .turn .ensures) _ (c .count3 .ensures) _ (c .before .before .q .given .1)
 
-enum-told-3 : tie.Need-enum-told-3 Inv-loop μ-loop
-enum-told-3 c = search needs
-
-next-of-requires : tie.Need-next-of-requires Inv-loop μ-loop
-next-of-requires c κs = λ z. due-call _ _ _ _ _ _ _ _ _ (loop-from-time-of (search) .loop .inv) _ _ _ (stretch-from-time-of (search) .stretch .ensures) (ap isDue (after-enum-told2 (search) .enum-told2 .given .1)) _ _ (after-place-now (search) .place-now .ensures) (after-record-of (search) .record-of .ensures) z .inside
-
-mul-move-on : tie.Need-mul-move-on Inv-loop μ-loop
-mul-move-on c = omega (arith, few-lines _ _ _ _ _ _ _ _ _ (loop-from-time-of (search) .loop .inv) _ _ _ (stretch-from-time-of (search) .stretch .ensures))
-
-move-on-requires : tie.Need-move-on-requires Inv-loop μ-loop
-move-on-requires c κs = (in-positions _ _ _ ((due-on _ _ _ _ _ _ _ _ _ (loop-from-time-of (search) .loop .inv) _ _ _ (stretch-from-time-of (search) .stretch .ensures) (ap isDue (enum-told2-from-time-of (search) .enum-told2 .given .1))) .stands) _ (place-now-from-time-of (search) .place-now .ensures), (number-in _ _ _ ((due-on _ _ _ _ _ _ _ _ _ (loop-from-time-of (search) .loop .inv) _ _ _ (stretch-from-time-of (search) .stretch .ensures) (ap isDue (enum-told2-from-time-of (search) .enum-told2 .given .1))) .stands) _ (place-now-from-time-of (search) .place-now .ensures), line-fits _ _ _ _ _ _ _ _ _ (due-on _ _ _ _ _ _ _ _ _ (loop-from-time-of (search) .loop .inv) _ _ _ (stretch-from-time-of (search) .stretch .ensures) (ap isDue (enum-told2-from-time-of (search) .enum-told2 .given .1))) (due-room _ _ _ _ _ _ _ _ _ (loop-from-time-of (search) .loop .inv) _ _ _ (stretch-from-time-of (search) .stretch .ensures) (ap isDue (enum-told2-from-time-of (search) .enum-told2 .given .1)))))
+enum-told-4 : tie.Need-enum-told-4 Inv-loop μ-loop
+enum-told-4 c = search needs
 
 add-n : tie.Need-add-n Inv-loop μ-loop
-add-n c = omega (arith, few-lines _ _ _ _ _ _ _ _ _ (loop-from-time-of (search) .loop .inv) _ _ _ (stretch-from-time-of (search) .stretch .ensures))
+add-n c = omega (arith, few-lines _ _ _ _ _ _ _ _ _ (loop-from-turn-arg (search) .loop .inv) _ _ _ (stretch-from-turn-arg (search) .stretch .ensures))
 
 loop-less-2 : tie.Need-loop-less-2 Inv-loop μ-loop
-loop-less-2 c = omega (arith, in-loop-from-time-of (search) .loop-test .taken, (stretch-from-time-of (search) .stretch .ensures) .more, due-room _ _ _ _ _ _ _ _ _ (loop-from-time-of (search) .loop .inv) _ _ _ (stretch-from-time-of (search) .stretch .ensures) (ap isDue (enum-told2-from-time-of (search) .enum-told2 .given .1)))
+loop-less-2 c = omega (arith, in-loop-from-turn-arg (search) .loop-test .taken, (stretch-from-turn-arg (search) .stretch .ensures) .more, due-room _ _ _ _ _ _ _ _ _ (loop-from-turn-arg (search) .loop .inv) _ _ _ (stretch-from-turn-arg (search) .stretch .ensures) (ap isDue (after-enum-told2 (search) .enum-told2 .given .1)))
 
 loop-again-2 : tie.Need-loop-again-2 Inv-loop μ-loop
-loop-again-2 c = apart-on _ _ _ _ _ _ _ _ _ (loop-from-time-of (search) .loop .inv) _ _ _ (stretch-from-time-of (search) .stretch .ensures) (ap isDue (enum-told2-from-time-of (search) .enum-told2 .given .1)) _ _ (place-now-from-time-of (search) .place-now .ensures) (record-of-from-time-of (search) .record-of .ensures) (sym (due-ends _ _ _ _ _ _ _ _ _ (loop-from-time-of (search) .loop .inv) _ _ _ (stretch-from-time-of (search) .stretch .ensures) (ap isDue (enum-told2-from-time-of (search) .enum-told2 .given .1)) _ _ (place-now-from-time-of (search) .place-now .ensures) (record-of-from-time-of (search) .record-of .ensures) _ (is-end-from-time-of (search) .is-end .ensures)) ∙ else1-from-time-of (search) .if1 .left) _ (after-time-of (search) .time-of .ensures) _ (after-perform-apart (search) .perform-apart .ensures _) (sym (after-enum-told3 (search) .enum-told3 .given .1) ∙ after-verdict-of (search) .verdict-of .ensures) _ (after-next-of (search) .next-of .ensures) _ _ (after-move-on (search) .move-on .ensures) (after-move-on (search) .move-on .kept .1 .1 .0)
+loop-again-2 c = turned-made _ _ _ _ _ _ _ _ _ (due-on _ _ _ _ _ _ _ _ _ (loop-from-turn-arg (search) .loop .inv) _ _ _ (stretch-from-turn-arg (search) .stretch .ensures) (ap isDue (after-enum-told2 (search) .enum-told2 .given .1))) (due-room _ _ _ _ _ _ _ _ _ (loop-from-turn-arg (search) .loop .inv) _ _ _ (stretch-from-turn-arg (search) .stretch .ensures) (ap isDue (after-enum-told2 (search) .enum-told2 .given .1))) _ (after-turn (search) .turn .ensures) (c .enum-told4 .given .1) (after-turn (search) .turn .kept .1 .1 .1 .1 .1 .1 .1 .1 .0)
 
-place-now-requires-2 : tie.Need-place-now-requires-2 Inv-loop μ-loop
-place-now-requires-2 c κs = its-judged _ _ _ ((c .before .before .loop .inv) .stands)
+place-now-requires : tie.Need-place-now-requires Inv-loop μ-loop
+place-now-requires c κs = its-judged _ _ _ ((c .before .before .loop .inv) .stands)
 
-record-of-requires-2 : tie.Need-record-of-requires-2 Inv-loop μ-loop
-record-of-requires-2 c κs = in-positions _ _ _ ((at-loop (search) .loop .inv) .stands) _ (c .before .place-now2 .ensures)
+record-of-requires : tie.Need-record-of-requires Inv-loop μ-loop
+record-of-requires c κs = in-positions _ _ _ ((at-loop (search) .loop .inv) .stands) _ (c .before .place-now .ensures)
 
-is-end-requires-2 : tie.Need-is-end-requires-2 Inv-loop μ-loop
-is-end-requires-2 c κs = search needs
+is-end-requires : tie.Need-is-end-requires Inv-loop μ-loop
+is-end-requires c κs = search needs
 
 count-requires-4 : tie.Need-count-requires-4 Inv-loop μ-loop
 count-requires-4 c κs = most-lines _ _ _ _ _ _ _ _ _ (at-loop (search) .loop .inv)
@@ -282,7 +223,7 @@ same-length-28 : tie.Need-same-length-28 Inv-loop μ-loop
 same-length-28 c = (at-loop (search) .loop .inv) .size
 
 returns-4 : tie.Need-returns-4 Inv-loop μ-loop
-returns-4 c = out-finished _ _ _ _ _ _ _ _ _ (at-loop (search) .loop .inv) (after-loop (search) .loop-test .left) _ (c .count4 .ensures) (sym (ends _ _ _ _ _ _ _ _ _ (at-loop (search) .loop .inv) _ _ _ (here-at _ _ _ _ _ (after-place-now2 (search) .place-now2 .ensures) refl (after-record-of2 (search) .record-of2 .ensures)) _ (c .before .before .is-end2 .ensures)) ∙ c .before .if2 .taken)
+returns-4 c = out-finished _ _ _ _ _ _ _ _ _ (at-loop (search) .loop .inv) (after-loop (search) .loop-test .left) _ (c .count4 .ensures) (sym (ends _ _ _ _ _ _ _ _ _ (at-loop (search) .loop .inv) _ _ _ (here-at _ _ _ _ _ (after-place-now (search) .place-now .ensures) refl (after-record-of (search) .record-of .ensures)) _ (c .before .before .is-end .ensures)) ∙ c .before .if1 .taken)
 
 count-requires-5 : tie.Need-count-requires-5 Inv-loop μ-loop
 count-requires-5 c κs = most-lines _ _ _ _ _ _ _ _ _ (at-loop (search) .loop .inv)
@@ -309,7 +250,7 @@ same-length-35 : tie.Need-same-length-35 Inv-loop μ-loop
 same-length-35 c = (at-loop (search) .loop .inv) .size
 
 returns-5 : tie.Need-returns-5 Inv-loop μ-loop
-returns-5 c = out-full _ _ _ _ _ _ _ _ _ (at-loop (search) .loop .inv) (after-loop (search) .loop-test .left) _ (c .count5 .ensures) (sym (ends _ _ _ _ _ _ _ _ _ (at-loop (search) .loop .inv) _ _ _ (here-at _ _ _ _ _ (after-place-now2 (search) .place-now2 .ensures) refl (after-record-of2 (search) .record-of2 .ensures)) _ (c .before .before .is-end2 .ensures)) ∙ c .before .if2 .left)
+returns-5 c = out-full _ _ _ _ _ _ _ _ _ (at-loop (search) .loop .inv) (after-loop (search) .loop-test .left) _ (c .count5 .ensures) (sym (ends _ _ _ _ _ _ _ _ _ (at-loop (search) .loop .inv) _ _ _ (here-at _ _ _ _ _ (after-place-now (search) .place-now .ensures) refl (after-record-of (search) .record-of .ensures)) _ (c .before .before .is-end .ensures)) ∙ c .before .if1 .left)
 
 pub turns-spec : {M : Type 1} → statement M
 turns-spec =
@@ -333,9 +274,9 @@ turns-spec =
     same-length-7
     returns
     enum-told-2
-    place-now-requires
-    record-of-requires
-    is-end-requires
+    mul-turn
+    turn-requires
+    enum-told-3
     count-requires-2
     same-length-8
     same-length-9
@@ -345,9 +286,6 @@ turns-spec =
     same-length-13
     same-length-14
     returns-2
-    time-of-requires
-    perform-apart-requires
-    verdict-of-requires
     enum-known-q
     count-requires-3
     same-length-15
@@ -358,16 +296,13 @@ turns-spec =
     same-length-20
     same-length-21
     returns-3
-    enum-told-3
-    next-of-requires
-    mul-move-on
-    move-on-requires
+    enum-told-4
     add-n
     loop-less-2
     loop-again-2
-    place-now-requires-2
-    record-of-requires-2
-    is-end-requires-2
+    place-now-requires
+    record-of-requires
+    is-end-requires
     count-requires-4
     same-length-22
     same-length-23

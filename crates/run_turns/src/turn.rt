@@ -1,0 +1,54 @@
+// One turn on judged tables: main is at its end, or a step is made or turned down. The step's call may be any; then the process moves on and the
+// line is written.
+use model::Counts;
+use model::verdict::Verdict;
+use run_laws::Turn;
+use run_step::apart::verdict_of;
+use run_step::either::goes_to;
+use run_step::either::perform_either;
+use run_step::move_on;
+use run_step::reading::is_end;
+use run_step::reading::next_of;
+use run_step::reading::place_now;
+use run_step::reading::record_of;
+use run_step::reading::time_of;
+ghost use mathlib.Core.Path.{_≡_};
+ghost use Prim.Native.Nat.{_+_, _≤_};
+ghost use lib.ListN.{length};
+ghost use Rattle.run_laws.specs.Run.{lent, turnOn};
+ghost use Rattle.run_laws.specs.Standing.{Standing};
+
+// The line, if there is one, goes to byte i.
+pub fn turn(
+    c: Counts,
+    sheet: &[u8],
+    links: &mut [u32],
+    axis: &mut [u32],
+    times: &mut [u64],
+    marks: &mut [u8],
+    positions: &mut [u32],
+    accums: &mut [i64],
+    trace: &mut [u8],
+    i: usize,
+) -> Turn
+    requires { ⌜ Standing c (now sheet) (lent (now links) (now axis) (now times) (now marks) (now positions) (now accums)) ⌝ }
+    requires { ⌜ i + 16 ≤ length (now trace) ⌝ }
+    ensures { λ r. ⌜ record { run = lent (now (links .exit)) (now (axis .exit)) (now (times .exit)) (now (marks .exit)) (now (positions .exit)) (now (accums .exit)); trace = now (trace .exit); turn = r }
+        ≡ turnOn c (now (sheet .entry)) i (lent (now (links .entry)) (now (axis .entry)) (now (times .entry)) (now (marks .entry)) (now (positions .entry)) (now (accums .entry))) (now (trace .entry)) ⌝ }
+{
+    let f = place_now(c, axis);
+    let r = record_of(positions, f);
+    if is_end(f, r) {
+        return Turn::Finished;
+    }
+    let time = time_of(times, f);
+    let e = perform_either(c, sheet, r, f, time, links, axis, times, marks, accums);
+    match verdict_of(e) {
+        Verdict::Refused(q) => Turn::Refused(q),
+        Verdict::Fine => {
+            let next = goes_to(e, next_of(sheet, c.processes, r));
+            move_on(c, positions, trace, f, time, r, i, next);
+            Turn::Made
+        }
+    }
+}
