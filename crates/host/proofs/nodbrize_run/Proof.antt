@@ -21,8 +21,33 @@ enum-known-read-2 c = search needs
 refused-requires-2 : tie.Need-refused-requires-2
 refused-requires-2 c κs = search needs
 
+-- The places that the answers look back to: `search` finds each by its type.
+abbrev start : tie.Start → tie.Start
+start x = x
+
+abbrev after-check : tie.After-check → tie.After-check
+after-check x = x
+
+abbrev after-read2 : tie.After-read2 → tie.After-read2
+after-read2 x = x
+
+abbrev else1 : tie.Else1 → tie.Else1
+else1 x = x
+
+abbrev after-total : tie.After-total → tie.After-total
+after-total x = x
+
+abbrev after-wide : tie.After-wide → tie.After-wide
+after-wide x = x
+
+abbrev after-start : tie.After-start → tie.After-start
+after-start x = x
+
+abbrev start-from-check : tie.After-check → tie.Start
+start-from-check x = x .before .before .before
+
 returns : tie.Need-returns
-returns c = host-long (c .before .before .before .before .before .before .before .before .args .sheet .now) (c .before .before .before .before .before .before .before .before .args .trace .now) _ (c .before .before .before .before .before .check .ensures) _ (c .before .before .before .read2 .given .1) (c .before .if1 .taken) _ (c .refused2 .ensures)
+returns c = host-long (start (search) .args .sheet .now) (start (search) .args .trace .now) _ (after-check (search) .check .ensures) _ (after-read2 (search) .read2 .given .1) (c .before .if1 .taken) _ (c .refused2 .ensures)
 
 total-requires : tie.Need-total-requires
 total-requires c κs = search needs
@@ -40,10 +65,10 @@ mul-links : tie.Need-mul-links
 mul-links c = search needs
 
 array-borrow-prefix-links : tie.Need-array-borrow-prefix-links
-array-borrow-prefix-links c = links-in (c .before .before .before .before .before .before .before .before .before .before .args .sheet .now) _ (sym (c .before .before .before .before .before .before .before .check .ensures) ∙ c .before .before .before .before .before .read2 .given .1) _ (c .before .total .ensures) _ (c .wide .ensures)
+array-borrow-prefix-links c = links-in (start (search) .args .sheet .now) _ (sym (after-check (search) .check .ensures) ∙ after-read2 (search) .read2 .given .1) _ (c .before .total .ensures) _ (c .wide .ensures)
 
 slice-aggregate-start : tie.Need-slice-aggregate-start
-slice-aggregate-start c = links-part (c .before .before .before .before .before .before .before .before .before .before .before .args .sheet .now) _ (sym (c .before .before .before .before .before .before .before .before .check .ensures) ∙ c .before .before .before .before .before .before .read2 .given .1) _ (c .before .before .total .ensures) _ (c .before .wide .ensures)
+slice-aggregate-start c = links-part (start (search) .args .sheet .now) _ (sym (after-check (search) .check .ensures) ∙ after-read2 (search) .read2 .given .1) _ (c .before .before .total .ensures) _ (c .before .wide .ensures)
 
 add-axis : tie.Need-add-axis
 add-axis c = search needs
@@ -52,46 +77,46 @@ mul-axis : tie.Need-mul-axis
 mul-axis c = search needs
 
 array-borrow-prefix-axis : tie.Need-array-borrow-prefix-axis
-array-borrow-prefix-axis c = axis-in (c .before .before .before .before .before .before .before .before .before .before .before .args .sheet .now) _ (sym (c .before .before .before .before .before .before .before .before .check .ensures) ∙ c .before .before .before .before .before .before .read2 .given .1) _ (c .before .before .total .ensures) _ (c .before .wide .ensures)
+array-borrow-prefix-axis c = axis-in (start (search) .args .sheet .now) _ (sym (after-check (search) .check .ensures) ∙ after-read2 (search) .read2 .given .1) _ (c .before .before .total .ensures) _ (c .before .wide .ensures)
 
 slice-aggregate-start-2 : tie.Need-slice-aggregate-start-2
-slice-aggregate-start-2 c = axis-part (c .before .before .before .before .before .before .before .before .before .before .before .before .args .sheet .now) _ (sym (c .before .before .before .before .before .before .before .before .before .check .ensures) ∙ c .before .before .before .before .before .before .before .read2 .given .1) _ (c .before .before .before .total .ensures) _ (c .before .before .wide .ensures)
+slice-aggregate-start-2 c = axis-part (start (search) .args .sheet .now) _ (sym (after-check (search) .check .ensures) ∙ after-read2 (search) .read2 .given .1) _ (after-total (search) .total .ensures) _ (c .before .before .wide .ensures)
 
 array-borrow-prefix-times : tie.Need-array-borrow-prefix-times
-array-borrow-prefix-times c = one-in (c .before .before .before .before .before .before .before .before .before .before .before .before .args .sheet .now) _ (sym (c .before .before .before .before .before .before .before .before .before .check .ensures) ∙ c .before .before .before .before .before .before .before .read2 .given .1) _ (c .before .before .before .total .ensures) _ (c .before .before .wide .ensures)
+array-borrow-prefix-times c = one-in (start (search) .args .sheet .now) _ (sym (after-check (search) .check .ensures) ∙ after-read2 (search) .read2 .given .1) _ (after-total (search) .total .ensures) _ (c .before .before .wide .ensures)
 
 slice-aggregate-start-3 : tie.Need-slice-aggregate-start-3
-slice-aggregate-start-3 c = one-part (c .before .before .before .before .before .before .before .before .before .before .before .before .before .args .sheet .now) _ (sym (c .before .before .before .before .before .before .before .before .before .before .check .ensures) ∙ c .before .before .before .before .before .before .before .before .read2 .given .1) _ (c .before .before .before .before .total .ensures) _ (c .before .before .before .wide .ensures)
+slice-aggregate-start-3 c = one-part (start (search) .args .sheet .now) _ (sym (after-check (search) .check .ensures) ∙ after-read2 (search) .read2 .given .1) _ (after-total (search) .total .ensures) _ (after-wide (search) .wide .ensures)
 
 array-borrow-prefix-marks : tie.Need-array-borrow-prefix-marks
-array-borrow-prefix-marks c = one-in (c .before .before .before .before .before .before .before .before .before .before .before .before .before .args .sheet .now) _ (sym (c .before .before .before .before .before .before .before .before .before .before .check .ensures) ∙ c .before .before .before .before .before .before .before .before .read2 .given .1) _ (c .before .before .before .before .total .ensures) _ (c .before .before .before .wide .ensures)
+array-borrow-prefix-marks c = one-in (start (search) .args .sheet .now) _ (sym (after-check (search) .check .ensures) ∙ after-read2 (search) .read2 .given .1) _ (after-total (search) .total .ensures) _ (after-wide (search) .wide .ensures)
 
 slice-aggregate-start-4 : tie.Need-slice-aggregate-start-4
-slice-aggregate-start-4 c = one-part (c .before .before .before .before .before .before .before .before .before .before .before .before .before .before .args .sheet .now) _ (sym (c .before .before .before .before .before .before .before .before .before .before .before .check .ensures) ∙ c .before .before .before .before .before .before .before .before .before .read2 .given .1) _ (c .before .before .before .before .before .total .ensures) _ (c .before .before .before .before .wide .ensures)
+slice-aggregate-start-4 c = one-part (start (search) .args .sheet .now) _ (sym (after-check (search) .check .ensures) ∙ after-read2 (search) .read2 .given .1) _ (after-total (search) .total .ensures) _ (after-wide (search) .wide .ensures)
 
 array-borrow-prefix-positions : tie.Need-array-borrow-prefix-positions
-array-borrow-prefix-positions c = one-in (c .before .before .before .before .before .before .before .before .before .before .before .before .before .before .args .sheet .now) _ (sym (c .before .before .before .before .before .before .before .before .before .before .before .check .ensures) ∙ c .before .before .before .before .before .before .before .before .before .read2 .given .1) _ (c .before .before .before .before .before .total .ensures) _ (c .before .before .before .before .wide .ensures)
+array-borrow-prefix-positions c = one-in (start (search) .args .sheet .now) _ (sym (after-check (search) .check .ensures) ∙ after-read2 (search) .read2 .given .1) _ (after-total (search) .total .ensures) _ (after-wide (search) .wide .ensures)
 
 slice-aggregate-start-5 : tie.Need-slice-aggregate-start-5
-slice-aggregate-start-5 c = one-part (c .before .before .before .before .before .before .before .before .before .before .before .before .before .before .before .args .sheet .now) _ (sym (c .before .before .before .before .before .before .before .before .before .before .before .before .check .ensures) ∙ c .before .before .before .before .before .before .before .before .before .before .read2 .given .1) _ (c .before .before .before .before .before .before .total .ensures) _ (c .before .before .before .before .before .wide .ensures)
+slice-aggregate-start-5 c = one-part (start (search) .args .sheet .now) _ (sym (after-check (search) .check .ensures) ∙ after-read2 (search) .read2 .given .1) _ (after-total (search) .total .ensures) _ (after-wide (search) .wide .ensures)
 
 slice-aggregate-start-6 : tie.Need-slice-aggregate-start-6
 slice-aggregate-start-6 c = search needs
 
 start-requires : tie.Need-start-requires
-start-requires c κs = lent-startable (c .before .before .before .before .before .before .before .before .before .before .before .before .before .before .before .before .before .args .sheet .now) _ (sym (c .before .before .before .before .before .before .before .before .before .before .before .before .before .before .check .ensures) ∙ c .before .before .before .before .before .before .before .before .before .before .before .before .read2 .given .1) _ (c .before .before .before .before .before .before .before .before .total .ensures) _ (c .before .before .before .before .before .before .before .wide .ensures) _ (c .before .before .before .before .before .before .before .before .before .before .if1 .left)
+start-requires c κs = lent-startable (start (search) .args .sheet .now) _ (sym (after-check (search) .check .ensures) ∙ after-read2 (search) .read2 .given .1) _ (after-total (search) .total .ensures) _ (after-wide (search) .wide .ensures) _ (else1 (search) .if1 .left)
 
 number-requires : tie.Need-number-requires
 number-requires c κs = search needs
 
 returns-2 : tie.Need-returns-2
-returns-2 c = host-8 (c .before .before .before .before .before .before .before .args .sheet .now) (c .before .before .before .before .before .before .before .args .trace .now) _ (c .before .before .before .before .check .ensures) _ _ (c .before .before .read .given .1) (c .refused .ensures)
+returns-2 c = host-8 (start (search) .args .sheet .now) (start (search) .args .trace .now) _ (after-check (search) .check .ensures) _ _ (c .before .before .read .given .1) (c .refused .ensures)
 
 same-length : tie.Need-same-length
 same-length c = search needs
 
 returns-3 : tie.Need-returns-3
-returns-3 c = host-run (c .before .before .before .before .before .before .before .before .before .before .before .before .before .before .before .before .before .before .before .before .before .before .before .before .before .before .before .args .sheet .now) (c .before .before .before .before .before .before .before .before .before .before .before .before .before .before .before .before .before .before .before .before .before .before .before .before .before .before .before .args .trace .now) _ (c .before .before .before .before .before .before .before .before .before .before .before .before .before .before .before .before .before .before .before .before .before .before .before .before .check .ensures) _ (c .before .before .before .before .before .before .before .before .before .before .before .before .before .before .before .before .before .before .before .before .before .before .read2 .given .1) (c .before .before .before .before .before .before .before .before .before .before .before .before .before .before .before .before .before .before .before .before .if1 .left) _ _ _ (ap (λ (o : RanOn). record { trace = o .trace; result = o .result }) (c .before .before .before .before .before .before .before .before .before .start .ensures)) (c .number .ensures)
+returns-3 c = host-run (start-from-check (search) .args .sheet .now) (start-from-check (search) .args .trace .now) _ (after-check (search) .check .ensures) _ (after-read2 (search) .read2 .given .1) (else1 (search) .if1 .left) _ _ _ (ap (λ (o : RanOn). record { trace = o .trace; result = o .result }) (after-start (search) .start .ensures)) (c .number .ensures)
 
 pub nodbrize-run-spec : {M : Type 1} → statement M
 nodbrize-run-spec =

@@ -36,8 +36,27 @@ same-length-3 c = search needs
 same-length-4 : tie.Need-same-length-4
 same-length-4 c = search needs
 
+-- The places that the answers look back to: `search` finds each by its type.
+abbrev after-total : tie.After-total → tie.After-total
+after-total x = x
+
+abbrev after-clear-words : tie.After-clear-words → tie.After-clear-words
+after-clear-words x = x
+
+abbrev after-start-heads : tie.After-start-heads → tie.After-start-heads
+after-start-heads x = x
+
+abbrev after-start-axis : tie.After-start-axis → tie.After-start-axis
+after-start-axis x = x
+
+abbrev after-clear-times : tie.After-clear-times → tie.After-clear-times
+after-clear-times x = x
+
+abbrev start-from-total : tie.After-total → tie.Start
+start-from-total x = x .before .before .before .before .before
+
 returns : tie.Need-returns
-returns c = filled _ _ (c .before .before .before .before .before .before .before .before .before .before .before .before .before .before .before .before .before .before .before .before .before .before .before .before .before .pre) _ (links-are (c .before .before .before .before .before .before .before .before .before .before .before .before .before .before .before .before .before .before .before .before .before .before .before .before .before .args .c) _ (c .before .before .before .before .before .before .before .before .before .before .before .before .before .before .before .before .before .before .before .before .before .before .before .before .before .args .links .now) _ _ (c .before .before .before .before .before .before .before .before .before .before .before .before .before .before .before .before .before .before .before .before .total .ensures) (c .before .before .before .before .before .before .before .before .before .before .before .before .before .before .before .before .before .before .before .before .before .before .before .before .before .pre .lengths .links-is) (c .before .before .before .before .before .before .before .before .before .before .before .before .before .before .before .before .before .before .clear-words .ensures) (c .before .before .before .before .before .before .before .before .before .before .before .before .before .before .start-heads .ensures)) (c .before .before .before .before .before .before .before .before .before .before .start-axis .ensures) (c .before .before .before .before .before .before .clear-times .ensures) (c .before .before .clear-bytes .ensures)
+returns c = filled _ _ (start-from-total (search) .pre) _ (links-are (start-from-total (search) .args .c) _ (start-from-total (search) .args .links .now) _ _ (after-total (search) .total .ensures) (start-from-total (search) .pre .lengths .links-is) (after-clear-words (search) .clear-words .ensures) (after-start-heads (search) .start-heads .ensures)) (after-start-axis (search) .start-axis .ensures) (after-clear-times (search) .clear-times .ensures) (c .before .before .clear-bytes .ensures)
 
 pub fill-spec : {M : Type 1} → statement M
 fill-spec =

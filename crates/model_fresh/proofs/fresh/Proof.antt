@@ -25,11 +25,27 @@ same-length-3 c = search needs
 same-length-4 : tie.Need-same-length-4
 same-length-4 c = search needs
 
+-- The places that the answers look back to: `search` finds each by its type.
+abbrev after-within-limits : tie.After-within-limits → tie.After-within-limits
+after-within-limits x = x
+
+abbrev else1 : tie.Else1 → tie.Else1
+else1 x = x
+
+abbrev after-lengths-fine : tie.After-lengths-fine → tie.After-lengths-fine
+after-lengths-fine x = x
+
+abbrev else2 : tie.Else2 → tie.Else2
+else2 x = x
+
+abbrev after-fill : tie.After-fill → tie.After-fill
+after-fill x = x
+
 returns-2 : tie.Need-returns-2
-returns-2 c = fresh-lengths _ _ _ (c .before .before .before .before .before .before .before .within-limits .ensures) (c .before .before .before .before .before .before .if1 .left) _ (c .before .lengths-fine .ensures) (c .if2 .taken)
+returns-2 c = fresh-lengths _ _ _ (after-within-limits (search) .within-limits .ensures) (else1 (search) .if1 .left) _ (c .before .lengths-fine .ensures) (c .if2 .taken)
 
 fill-requires : tie.Need-fill-requires
-fill-requires c κs = verdict-sized _ _ _ (c .before .before .before .before .before .before .before .before .before .before .before .within-limits .ensures) (c .before .before .before .before .before .before .before .before .before .before .if1 .left) _ (c .before .before .before .before .before .lengths-fine .ensures) (c .before .before .before .before .if2 .left)
+fill-requires c κs = verdict-sized _ _ _ (after-within-limits (search) .within-limits .ensures) (else1 (search) .if1 .left) _ (after-lengths-fine (search) .lengths-fine .ensures) (else2 (search) .if2 .left)
 
 same-length-5 : tie.Need-same-length-5
 same-length-5 c = search needs
@@ -44,7 +60,7 @@ same-length-8 : tie.Need-same-length-8
 same-length-8 c = search needs
 
 returns-3 : tie.Need-returns-3
-returns-3 c = fresh-filled _ _ _ (c .before .before .before .before .before .before .before .before .before .before .before .before .before .before .before .before .before .before .before .before .within-limits .ensures) (c .before .before .before .before .before .before .before .before .before .before .before .before .before .before .before .before .before .before .before .if1 .left) _ (c .before .before .before .before .before .before .before .before .before .before .before .before .before .before .lengths-fine .ensures) _ (c .before .before .before .before .before .before .before .before .before .before .before .before .before .if2 .left) (c .before .before .before .before .before .before .before .before .fill .ensures)
+returns-3 c = fresh-filled _ _ _ (after-within-limits (search) .within-limits .ensures) (else1 (search) .if1 .left) _ (after-lengths-fine (search) .lengths-fine .ensures) _ (else2 (search) .if2 .left) (after-fill (search) .fill .ensures)
 
 pub fresh-spec : {M : Type 1} → statement M
 fresh-spec =

@@ -15,11 +15,24 @@ add-is-idle c = search needs
 is-idle-requires : tie.Need-is-idle-requires
 is-idle-requires c κs = search needs
 
+-- The places that the answers look back to: `search` finds each by its type.
+abbrev start : tie.Start → tie.Start
+start x = x
+
+abbrev after-is-idle : tie.After-is-idle → tie.After-is-idle
+after-is-idle x = x
+
+abbrev else1 : tie.Else1 → tie.Else1
+else1 x = x
+
+abbrev else2 : tie.Else2 → tie.Else2
+else2 x = x
+
 returns : tie.Need-returns
-returns c = t-idle (c .before .before .before .before .before .args .p) (c .before .before .before .before .before .args .axis .now) (c .before .before .before .before .before .args .times .now) (c .before .before .before .before .before .args .y) _ (c .before .is-idle .ensures) (c .if1 .taken)
+returns c = t-idle (start (search) .args .p) (start (search) .args .axis .now) (start (search) .args .times .now) (start (search) .args .y) _ (c .before .is-idle .ensures) (c .if1 .taken)
 
 returns-2 : tie.Need-returns-2
-returns-2 c = t-past (c .before .before .before .before .before .before .args .p) (c .before .before .before .before .before .before .args .axis .now) (c .before .before .before .before .before .before .args .times .now) (c .before .before .before .before .before .before .args .y) _ (c .before .before .is-idle .ensures) (c .before .if1 .left) (c .if2 .taken)
+returns-2 c = t-past (start (search) .args .p) (start (search) .args .axis .now) (start (search) .args .times .now) (start (search) .args .y) _ (c .before .before .is-idle .ensures) (c .before .if1 .left) (c .if2 .taken)
 
 mul-wide : tie.Need-mul-wide
 mul-wide c = search needs
@@ -34,7 +47,7 @@ add-if3 : tie.Need-add-if3
 add-if3 c = search needs
 
 returns-3 : tie.Need-returns-3
-returns-3 c = t-last _ _ _ _ _ (c .before .before .before .before .before .is-idle .ensures) _ (c .before .before .before .before .before .before .before .before .before .pre .2) (c .before .before .before .before .if1 .left) (c .before .before .before .if2 .left) (c .before .wide .ensures) (c .if3 .taken)
+returns-3 c = t-last _ _ _ _ _ (after-is-idle (search) .is-idle .ensures) _ (start (search) .pre .2) (else1 (search) .if1 .left) (else2 (search) .if2 .left) (c .before .wide .ensures) (c .if3 .taken)
 
 mul-result : tie.Need-mul-result
 mul-result c = search needs
@@ -43,7 +56,7 @@ shared-slice-read-result : tie.Need-shared-slice-read-result
 shared-slice-read-result c = search needs
 
 returns-4 : tie.Need-returns-4
-returns-4 c = t-next _ _ _ _ _ (c .before .before .before .before .before .before .is-idle .ensures) _ (c .before .before .before .before .before .before .before .before .before .before .pre .2) (c .before .before .before .before .before .if1 .left) (c .before .before .before .before .if2 .left) (c .before .before .wide .ensures) (c .before .if3 .left)
+returns-4 c = t-next _ _ _ _ _ (after-is-idle (search) .is-idle .ensures) _ (start (search) .pre .2) (else1 (search) .if1 .left) (else2 (search) .if2 .left) (c .before .before .wide .ensures) (c .before .if3 .left)
 
 pub time-fine-spec : {M : Type 1} → statement M
 time-fine-spec =

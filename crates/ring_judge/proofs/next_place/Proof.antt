@@ -17,26 +17,39 @@ wide-requires c κs = search needs
 may-stand-requires : tie.Need-may-stand-requires
 may-stand-requires c κs = search needs
 
+-- The places that the answers look back to: `search` finds each by its type.
+abbrev start : tie.Start → tie.Start
+start x = x
+
+abbrev after-wide : tie.After-wide → tie.After-wide
+after-wide x = x
+
+abbrev after-may-stand : tie.After-may-stand → tie.After-may-stand
+after-may-stand x = x
+
+abbrev else1 : tie.Else1 → tie.Else1
+else1 x = x
+
 returns : tie.Need-returns
-returns c = next-not _ _ _ _ _ _ _ _ (c .before .before .before .before .before .pre .1 .1) (c .before .before .wide .ensures) (c .before .may-stand .ensures) (not-true _ (c .if1 .taken))
+returns c = next-not _ _ _ _ _ _ _ _ (start (search) .pre .1 .1) (c .before .before .wide .ensures) (c .before .may-stand .ensures) (not-true _ (c .if1 .taken))
 
 add-wide : tie.Need-add-wide
-add-wide c = let l = next-in-table _ (c .before .before .before .before .before .args .t .now) _ _ _ (c .before .before .before .before .before .args .a) _ _ (c .before .before .before .before .before .pre .1 .0) (c .before .before .before .before .before .pre .0 .top) (c .before .may-stand .ensures) (not-false _ (c .if1 .left)) in omega (arith, l, c .before .before .before .before .before .pre .0 .two)
+add-wide c = let l = next-in-table _ (start (search) .args .t .now) _ _ _ (start (search) .args .a) _ _ (start (search) .pre .1 .0) (start (search) .pre .0 .top) (c .before .may-stand .ensures) (not-false _ (c .if1 .left)) in omega (arith, l, start (search) .pre .0 .two)
 
 mul-wide-2 : tie.Need-mul-wide-2
-mul-wide-2 c = let l = next-in-table _ (c .before .before .before .before .before .args .t .now) _ _ _ (c .before .before .before .before .before .args .a) _ _ (c .before .before .before .before .before .pre .1 .0) (c .before .before .before .before .before .pre .0 .top) (c .before .may-stand .ensures) (not-false _ (c .if1 .left)) in omega (arith, l, c .before .before .before .before .before .pre .0 .two)
+mul-wide-2 c = let l = next-in-table _ (start (search) .args .t .now) _ _ _ (start (search) .args .a) _ _ (start (search) .pre .1 .0) (start (search) .pre .0 .top) (c .before .may-stand .ensures) (not-false _ (c .if1 .left)) in omega (arith, l, start (search) .pre .0 .two)
 
 shared-slice-read-wide-2 : tie.Need-shared-slice-read-wide-2
-shared-slice-read-wide-2 c = let l = next-in-table _ (c .before .before .before .before .before .before .args .t .now) _ _ _ (c .before .before .before .before .before .before .args .a) _ _ (c .before .before .before .before .before .before .pre .1 .0) (c .before .before .before .before .before .before .pre .0 .top) (c .before .before .may-stand .ensures) (not-false _ (c .before .if1 .left)) in omega (arith, l, c .before .before .before .before .before .before .pre .0 .two)
+shared-slice-read-wide-2 c = let l = next-in-table _ (start (search) .args .t .now) _ _ _ (start (search) .args .a) _ _ (start (search) .pre .1 .0) (start (search) .pre .0 .top) (c .before .before .may-stand .ensures) (not-false _ (c .before .if1 .left)) in omega (arith, l, start (search) .pre .0 .two)
 
 wide-requires-2 : tie.Need-wide-requires-2
 wide-requires-2 c κs = search needs
 
 returns-2 : tie.Need-returns-2
-returns-2 c = next-one-way _ _ _ _ _ _ _ _ (c .before .before .before .before .before .before .before .before .pre .1 .1) (c .before .before .before .before .before .wide .ensures) (c .before .wide2 .ensures) (c .if2 .taken)
+returns-2 c = next-one-way _ _ _ _ _ _ _ _ (start (search) .pre .1 .1) (after-wide (search) .wide .ensures) (c .before .wide2 .ensures) (c .if2 .taken)
 
 returns-3 : tie.Need-returns-3
-returns-3 c = next-is _ _ _ _ _ _ _ _ _ (c .before .before .before .before .before .before .before .before .pre .0) (c .before .before .before .before .before .before .before .before .pre .1 .0) (c .before .before .before .before .before .before .before .before .pre .1 .1) (c .before .before .before .before .before .wide .ensures) (c .before .before .before .before .may-stand .ensures) (not-false _ (c .before .before .before .if1 .left)) (c .before .wide2 .ensures) (c .if2 .left)
+returns-3 c = next-is _ _ _ _ _ _ _ _ _ (start (search) .pre .0) (start (search) .pre .1 .0) (start (search) .pre .1 .1) (after-wide (search) .wide .ensures) (after-may-stand (search) .may-stand .ensures) (not-false _ (else1 (search) .if1 .left)) (c .before .wide2 .ensures) (c .if2 .left)
 
 pub next-place-spec : {M : Type 1} → statement M
 next-place-spec =

@@ -16,11 +16,27 @@ refused-requires c κs = search needs
 enum-known-read-2 : tie.Need-enum-known-read-2
 enum-known-read-2 c = search needs
 
+-- The places that the answers look back to: `search` finds each by its type.
+abbrev start : tie.Start → tie.Start
+start x = x
+
+abbrev after-check : tie.After-check → tie.After-check
+after-check x = x
+
+abbrev after-read2 : tie.After-read2 → tie.After-read2
+after-read2 x = x
+
+abbrev after-run-accepted : tie.After-run-accepted → tie.After-run-accepted
+after-run-accepted x = x
+
+abbrev start-from-check : tie.After-check → tie.Start
+start-from-check x = x .before .before .before .before .before .before .before .before
+
 run-accepted-requires : tie.Need-run-accepted-requires
-run-accepted-requires c κs = sym ((c .before .before .before .before .before .before .before .before .before .before .check .ensures)) ∙ (c .before .before .before .before .before .before .before .before .read2 .given .1)
+run-accepted-requires c κs = sym ((after-check (search) .check .ensures)) ∙ (after-read2 (search) .read2 .given .1)
 
 returns : tie.Need-returns
-returns c = is.run-8 ((c .before .before .before .before .before .before .before .before .before .before .before .before .args .sheet .now)) (record { model = record { links = (c .before .before .before .before .before .before .before .before .before .before .before .before .args .links .now); axis = (c .before .before .before .before .before .before .before .before .before .before .before .before .args .axis .now); times = (c .before .before .before .before .before .before .before .before .before .before .before .before .args .times .now); marks = (c .before .before .before .before .before .before .before .before .before .before .before .before .args .marks .now) }; positions = (c .before .before .before .before .before .before .before .before .before .before .before .before .args .positions .now); words = (c .before .before .before .before .before .before .before .before .before .before .before .before .args .accums .now) }) ((c .before .before .before .before .before .before .before .before .before .before .before .before .args .trace .now)) _ ((c .before .before .before .before .check .ensures)) _ _ ((c .before .before .read .given .1)) ((c .refused .ensures))
+returns c = is.run-8 ((start (search) .args .sheet .now)) (record { model = record { links = (start (search) .args .links .now); axis = (start (search) .args .axis .now); times = (start (search) .args .times .now); marks = (start (search) .args .marks .now) }; positions = (start (search) .args .positions .now); words = (start (search) .args .accums .now) }) ((start (search) .args .trace .now)) _ ((after-check (search) .check .ensures)) _ _ ((c .before .before .read .given .1)) ((c .refused .ensures))
 
 same-length : tie.Need-same-length
 same-length c = search needs
@@ -44,7 +60,7 @@ same-length-7 : tie.Need-same-length-7
 same-length-7 c = search needs
 
 returns-2 : tie.Need-returns-2
-returns-2 c = is.run-accepted ((c .before .before .before .before .before .before .before .before .before .before .before .before .before .before .before .before .before .before .before .before .before .before .before .before .before .before .before .before .before .before .before .before .args .sheet .now)) (record { model = record { links = (c .before .before .before .before .before .before .before .before .before .before .before .before .before .before .before .before .before .before .before .before .before .before .before .before .before .before .before .before .before .before .before .before .args .links .now); axis = (c .before .before .before .before .before .before .before .before .before .before .before .before .before .before .before .before .before .before .before .before .before .before .before .before .before .before .before .before .before .before .before .before .args .axis .now); times = (c .before .before .before .before .before .before .before .before .before .before .before .before .before .before .before .before .before .before .before .before .before .before .before .before .before .before .before .before .before .before .before .before .args .times .now); marks = (c .before .before .before .before .before .before .before .before .before .before .before .before .before .before .before .before .before .before .before .before .before .before .before .before .before .before .before .before .before .before .before .before .args .marks .now) }; positions = (c .before .before .before .before .before .before .before .before .before .before .before .before .before .before .before .before .before .before .before .before .before .before .before .before .before .before .before .before .before .before .before .before .args .positions .now); words = (c .before .before .before .before .before .before .before .before .before .before .before .before .before .before .before .before .before .before .before .before .before .before .before .before .before .before .before .before .before .before .before .before .args .accums .now) }) ((c .before .before .before .before .before .before .before .before .before .before .before .before .before .before .before .before .before .before .before .before .before .before .before .before .before .before .before .before .before .before .before .before .args .trace .now)) _ ((c .before .before .before .before .before .before .before .before .before .before .before .before .before .before .before .before .before .before .before .before .before .before .before .before .check .ensures)) _ _ ((c .before .before .before .before .before .before .before .before .before .before .before .before .before .before .before .before .before .before .before .before .before .before .read2 .given .1)) ((c .before .before .before .before .before .before .before .before .before .before .before .before .before .run-accepted .ensures))
+returns-2 c = is.run-accepted ((start-from-check (search) .args .sheet .now)) (record { model = record { links = (start-from-check (search) .args .links .now); axis = (start-from-check (search) .args .axis .now); times = (start-from-check (search) .args .times .now); marks = (start-from-check (search) .args .marks .now) }; positions = (start-from-check (search) .args .positions .now); words = (start-from-check (search) .args .accums .now) }) ((start-from-check (search) .args .trace .now)) _ ((after-check (search) .check .ensures)) _ _ ((after-read2 (search) .read2 .given .1)) ((after-run-accepted (search) .run-accepted .ensures))
 
 pub run-spec : {M : Type 1} → statement M
 run-spec =

@@ -17,8 +17,24 @@ refused-requires c κs = search needs
 enum-told : tie.Need-enum-told
 enum-told c = search needs
 
+-- The places that the answers look back to: `search` finds each by its type.
+abbrev start : tie.Start → tie.Start
+start x = x
+
+abbrev after-judge-run : tie.After-judge-run → tie.After-judge-run
+after-judge-run x = x
+
+abbrev after-enum-told : tie.After-enum-told → tie.After-enum-told
+after-enum-told x = x
+
+abbrev after-turns : tie.After-turns → tie.After-turns
+after-turns x = x
+
+abbrev start-from-judge-run : tie.After-judge-run → tie.Start
+start-from-judge-run x = x .before .before .before .before .before .before .before .before .before .before .before .before .before .before .before
+
 turns-requires : tie.Need-turns-requires
-turns-requires c κs = fine-standing ((c .before .before .before .before .before .before .before .before .before .before .before .before .before .before .before .before .before .before .before .before .before .before .before .before .args .sheet .now)) ((c .before .before .before .before .before .before .before .before .before .before .before .before .before .before .before .before .before .before .before .before .before .before .before .before .args .header)) (record { model = record { links = (c .before .before .before .before .before .before .before .before .before .before .before .before .before .before .before .before .before .before .before .before .before .before .before .before .args .links .now); axis = (c .before .before .before .before .before .before .before .before .before .before .before .before .before .before .before .before .before .before .before .before .before .before .before .before .args .axis .now); times = (c .before .before .before .before .before .before .before .before .before .before .before .before .before .before .before .before .before .before .before .before .before .before .before .before .args .times .now); marks = (c .before .before .before .before .before .before .before .before .before .before .before .before .before .before .before .before .before .before .before .before .before .before .before .before .args .marks .now) }; positions = (c .before .before .before .before .before .before .before .before .before .before .before .before .before .before .before .before .before .before .before .before .before .before .before .before .args .positions .now); words = (c .before .before .before .before .before .before .before .before .before .before .before .before .before .before .before .before .before .before .before .before .before .before .before .before .args .accums .now) }) _ ((c .before .before .before .before .before .before .before .before .before .before .before .before .before .before .before .before .before .before .before .before .before .before .before .before .pre)) (sym ((c .before .before .before .before .before .before .before .before .before .judge-run .ensures)) ∙ (c .before .before .before .before .before .before .before .enum-told .given .1))
+turns-requires c κs = fine-standing ((start (search) .args .sheet .now)) ((start (search) .args .header)) (record { model = record { links = (start (search) .args .links .now); axis = (start (search) .args .axis .now); times = (start (search) .args .times .now); marks = (start (search) .args .marks .now) }; positions = (start (search) .args .positions .now); words = (start (search) .args .accums .now) }) _ ((start (search) .pre)) (sym ((after-judge-run (search) .judge-run .ensures)) ∙ (after-enum-told (search) .enum-told .given .1))
 
 same-length : tie.Need-same-length
 same-length c = search needs
@@ -39,7 +55,7 @@ same-length-6 : tie.Need-same-length-6
 same-length-6 c = search needs
 
 returns : tie.Need-returns
-returns c = run-judged ((c .before .before .before .before .before .before .before .before .before .before .before .before .before .before .before .before .before .before .before .args .sheet .now)) (record { model = record { links = (c .before .before .before .before .before .before .before .before .before .before .before .before .before .before .before .before .before .before .before .args .links .now); axis = (c .before .before .before .before .before .before .before .before .before .before .before .before .before .before .before .before .before .before .before .args .axis .now); times = (c .before .before .before .before .before .before .before .before .before .before .before .before .before .before .before .before .before .before .before .args .times .now); marks = (c .before .before .before .before .before .before .before .before .before .before .before .before .before .before .before .before .before .before .before .args .marks .now) }; positions = (c .before .before .before .before .before .before .before .before .before .before .before .before .before .before .before .before .before .before .before .args .positions .now); words = (c .before .before .before .before .before .before .before .before .before .before .before .before .before .before .before .before .before .before .before .args .accums .now) }) ((c .before .before .before .before .before .before .before .before .before .before .before .before .before .before .before .before .before .before .before .args .trace .now)) ((c .before .before .before .before .before .before .before .before .before .before .before .before .before .before .before .before .before .before .before .args .header)) _ ((c .before .before .before .before .judge-run .ensures)) _ _ ((c .before .before .v .given .1)) ((c .refused .ensures))
+returns c = run-judged ((start (search) .args .sheet .now)) (record { model = record { links = (start (search) .args .links .now); axis = (start (search) .args .axis .now); times = (start (search) .args .times .now); marks = (start (search) .args .marks .now) }; positions = (start (search) .args .positions .now); words = (start (search) .args .accums .now) }) ((start (search) .args .trace .now)) ((start (search) .args .header)) _ ((after-judge-run (search) .judge-run .ensures)) _ _ ((c .before .before .v .given .1)) ((c .refused .ensures))
 
 same-length-7 : tie.Need-same-length-7
 same-length-7 c = search needs
@@ -63,7 +79,7 @@ same-length-13 : tie.Need-same-length-13
 same-length-13 c = search needs
 
 returns-2 : tie.Need-returns-2
-returns-2 c = run-turns ((c .before .before .before .before .before .before .before .before .before .before .before .before .before .before .before .before .before .before .before .before .before .before .before .before .before .before .before .before .before .before .before .before .before .before .before .before .before .before .args .sheet .now)) (record { model = record { links = (c .before .before .before .before .before .before .before .before .before .before .before .before .before .before .before .before .before .before .before .before .before .before .before .before .before .before .before .before .before .before .before .before .before .before .before .before .before .before .args .links .now); axis = (c .before .before .before .before .before .before .before .before .before .before .before .before .before .before .before .before .before .before .before .before .before .before .before .before .before .before .before .before .before .before .before .before .before .before .before .before .before .before .args .axis .now); times = (c .before .before .before .before .before .before .before .before .before .before .before .before .before .before .before .before .before .before .before .before .before .before .before .before .before .before .before .before .before .before .before .before .before .before .before .before .before .before .args .times .now); marks = (c .before .before .before .before .before .before .before .before .before .before .before .before .before .before .before .before .before .before .before .before .before .before .before .before .before .before .before .before .before .before .before .before .before .before .before .before .before .before .args .marks .now) }; positions = (c .before .before .before .before .before .before .before .before .before .before .before .before .before .before .before .before .before .before .before .before .before .before .before .before .before .before .before .before .before .before .before .before .before .before .before .before .before .before .args .positions .now); words = (c .before .before .before .before .before .before .before .before .before .before .before .before .before .before .before .before .before .before .before .before .before .before .before .before .before .before .before .before .before .before .before .before .before .before .before .before .before .before .args .accums .now) }) ((c .before .before .before .before .before .before .before .before .before .before .before .before .before .before .before .before .before .before .before .before .before .before .before .before .before .before .before .before .before .before .before .before .before .before .before .before .before .before .args .trace .now)) ((c .before .before .before .before .before .before .before .before .before .before .before .before .before .before .before .before .before .before .before .before .before .before .before .before .before .before .before .before .before .before .before .before .before .before .before .before .before .before .args .header)) _ ((c .before .before .before .before .before .before .before .before .before .before .before .before .before .before .before .before .before .before .before .before .before .before .before .judge-run .ensures)) _ ((c .before .before .before .before .before .before .before .before .before .before .before .before .before .before .before .before .before .before .before .before .before .enum-told .given .1)) ((c .before .before .before .before .before .before .before .before .before .before .before .before .before .turns .ensures))
+returns-2 c = run-turns ((start-from-judge-run (search) .args .sheet .now)) (record { model = record { links = (start-from-judge-run (search) .args .links .now); axis = (start-from-judge-run (search) .args .axis .now); times = (start-from-judge-run (search) .args .times .now); marks = (start-from-judge-run (search) .args .marks .now) }; positions = (start-from-judge-run (search) .args .positions .now); words = (start-from-judge-run (search) .args .accums .now) }) ((start-from-judge-run (search) .args .trace .now)) ((start-from-judge-run (search) .args .header)) _ ((after-judge-run (search) .judge-run .ensures)) _ ((after-enum-told (search) .enum-told .given .1)) ((after-turns (search) .turns .ensures))
 
 pub run-accepted-spec : {M : Type 1} → statement M
 run-accepted-spec =

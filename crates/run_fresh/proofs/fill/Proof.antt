@@ -10,11 +10,36 @@ wide-requires c κs = search needs
 add-if1 : tie.Need-add-if1
 add-if1 c = search needs
 
+-- The places that the answers look back to: `search` finds each by its type.
+abbrev start : tie.Start → tie.Start
+start x = x
+
+abbrev after-wide : tie.After-wide → tie.After-wide
+after-wide x = x
+
+abbrev else1 : tie.Else1 → tie.Else1
+else1 x = x
+
+abbrev else2 : tie.Else2 → tie.Else2
+else2 x = x
+
+abbrev after-fresh : tie.After-fresh → tie.After-fresh
+after-fresh x = x
+
+abbrev after-enum-told : tie.After-enum-told → tie.After-enum-told
+after-enum-told x = x
+
+abbrev after-fill-starts : tie.After-fill-starts → tie.After-fill-starts
+after-fill-starts x = x
+
+abbrev start-from-wide : tie.After-wide → tie.Start
+start-from-wide x = x .before .before .before .before .before .before .before .before
+
 returns : tie.Need-returns
-returns c = fill-positions ((c .before .before .before .before .before .before .before .before .before .args .sheet .now)) (record { model = record { links = (c .before .before .before .before .before .before .before .before .before .args .links .now); axis = (c .before .before .before .before .before .before .before .before .before .args .axis .now); times = (c .before .before .before .before .before .before .before .before .before .args .times .now); marks = (c .before .before .before .before .before .before .before .before .before .args .marks .now) }; positions = (c .before .before .before .before .before .before .before .before .before .args .positions .now); words = (c .before .before .before .before .before .before .before .before .before .args .accums .now) }) ((c .before .before .before .before .before .before .before .before .before .args .header)) _ ((c .before .wide .ensures)) ((c .if1 .taken))
+returns c = fill-positions ((start (search) .args .sheet .now)) (record { model = record { links = (start (search) .args .links .now); axis = (start (search) .args .axis .now); times = (start (search) .args .times .now); marks = (start (search) .args .marks .now) }; positions = (start (search) .args .positions .now); words = (start (search) .args .accums .now) }) ((start (search) .args .header)) _ ((c .before .wide .ensures)) ((c .if1 .taken))
 
 returns-2 : tie.Need-returns-2
-returns-2 c = fill-words ((c .before .before .before .before .before .before .before .before .before .before .args .sheet .now)) (record { model = record { links = (c .before .before .before .before .before .before .before .before .before .before .args .links .now); axis = (c .before .before .before .before .before .before .before .before .before .before .args .axis .now); times = (c .before .before .before .before .before .before .before .before .before .before .args .times .now); marks = (c .before .before .before .before .before .before .before .before .before .before .args .marks .now) }; positions = (c .before .before .before .before .before .before .before .before .before .before .args .positions .now); words = (c .before .before .before .before .before .before .before .before .before .before .args .accums .now) }) ((c .before .before .before .before .before .before .before .before .before .before .args .header)) _ ((c .before .before .wide .ensures)) ((c .before .if1 .left)) ((c .if2 .taken))
+returns-2 c = fill-words ((start (search) .args .sheet .now)) (record { model = record { links = (start (search) .args .links .now); axis = (start (search) .args .axis .now); times = (start (search) .args .times .now); marks = (start (search) .args .marks .now) }; positions = (start (search) .args .positions .now); words = (start (search) .args .accums .now) }) ((start (search) .args .header)) _ ((c .before .before .wide .ensures)) ((c .before .if1 .left)) ((c .if2 .taken))
 
 fresh-requires : tie.Need-fresh-requires
 fresh-requires c κs = search needs
@@ -26,7 +51,7 @@ enum-told : tie.Need-enum-told
 enum-told c = search needs
 
 fill-starts-requires : tie.Need-fill-starts-requires
-fill-starts-requires c κs = (at ((c .before .before .before .before .before .before .before .before .before .before .before .before .before .before .before .before .before .before .before .before .before .before .before .before .before .before .args .sheet .now)) (record { model = record { links = (c .before .before .before .before .before .before .before .before .before .before .before .before .before .before .before .before .before .before .before .before .before .before .before .before .before .before .args .links .now); axis = (c .before .before .before .before .before .before .before .before .before .before .before .before .before .before .before .before .before .before .before .before .before .before .before .before .before .before .args .axis .now); times = (c .before .before .before .before .before .before .before .before .before .before .before .before .before .before .before .before .before .before .before .before .before .before .before .before .before .before .args .times .now); marks = (c .before .before .before .before .before .before .before .before .before .before .before .before .before .before .before .before .before .before .before .before .before .before .before .before .before .before .args .marks .now) }; positions = (c .before .before .before .before .before .before .before .before .before .before .before .before .before .before .before .before .before .before .before .before .before .before .before .before .before .before .args .positions .now); words = (c .before .before .before .before .before .before .before .before .before .before .before .before .before .before .before .before .before .before .before .before .before .before .before .before .before .before .args .accums .now) }) ((c .before .before .before .before .before .before .before .before .before .before .before .before .before .before .before .before .before .before .before .before .before .before .before .before .before .before .args .header)) _ ((c .before .before .before .before .before .before .before .before .before .before .before .before .before .before .before .before .before .before .wide .ensures)) ((c .before .before .before .before .before .before .before .before .before .before .before .before .before .before .before .before .before .if1 .left)), starts-inside ((c .before .before .before .before .before .before .before .before .before .before .before .before .before .before .before .before .before .before .before .before .before .before .before .before .before .before .args .sheet .now)) (record { model = record { links = (c .before .before .before .before .before .before .before .before .before .before .before .before .before .before .before .before .before .before .before .before .before .before .before .before .before .before .args .links .now); axis = (c .before .before .before .before .before .before .before .before .before .before .before .before .before .before .before .before .before .before .before .before .before .before .before .before .before .before .args .axis .now); times = (c .before .before .before .before .before .before .before .before .before .before .before .before .before .before .before .before .before .before .before .before .before .before .before .before .before .before .args .times .now); marks = (c .before .before .before .before .before .before .before .before .before .before .before .before .before .before .before .before .before .before .before .before .before .before .before .before .before .before .args .marks .now) }; positions = (c .before .before .before .before .before .before .before .before .before .before .before .before .before .before .before .before .before .before .before .before .before .before .before .before .before .before .args .positions .now); words = (c .before .before .before .before .before .before .before .before .before .before .before .before .before .before .before .before .before .before .before .before .before .before .before .before .before .before .args .accums .now) }) ((c .before .before .before .before .before .before .before .before .before .before .before .before .before .before .before .before .before .before .before .before .before .before .before .before .before .before .args .header)) _ ((c .before .before .before .before .before .before .before .before .before .before .before .before .before .before .before .before .before .before .wide .ensures)) ((c .before .before .before .before .before .before .before .before .before .before .before .before .before .before .before .before .before .if1 .left)) ((c .before .before .before .before .before .before .before .before .before .before .before .before .before .before .before .before .if2 .left)) ((c .before .before .before .before .before .before .before .before .before .before .before .before .before .before .before .before .before .before .before .before .before .before .before .before .before .before .pre)))
+fill-starts-requires c κs = (at ((start-from-wide (search) .args .sheet .now)) (record { model = record { links = (start-from-wide (search) .args .links .now); axis = (start-from-wide (search) .args .axis .now); times = (start-from-wide (search) .args .times .now); marks = (start-from-wide (search) .args .marks .now) }; positions = (start-from-wide (search) .args .positions .now); words = (start-from-wide (search) .args .accums .now) }) ((start-from-wide (search) .args .header)) _ ((after-wide (search) .wide .ensures)) ((else1 (search) .if1 .left)), starts-inside ((start-from-wide (search) .args .sheet .now)) (record { model = record { links = (start-from-wide (search) .args .links .now); axis = (start-from-wide (search) .args .axis .now); times = (start-from-wide (search) .args .times .now); marks = (start-from-wide (search) .args .marks .now) }; positions = (start-from-wide (search) .args .positions .now); words = (start-from-wide (search) .args .accums .now) }) ((start-from-wide (search) .args .header)) _ ((after-wide (search) .wide .ensures)) ((else1 (search) .if1 .left)) ((else2 (search) .if2 .left)) ((start-from-wide (search) .pre)))
 
 clear-accums-requires : tie.Need-clear-accums-requires
 clear-accums-requires c κs = search needs
@@ -44,7 +69,7 @@ same-length-4 : tie.Need-same-length-4
 same-length-4 c = search needs
 
 returns-3 : tie.Need-returns-3
-returns-3 c = fill-model ((c .before .before .before .before .before .before .before .before .before .before .before .before .before .before .before .before .before .before .before .before .before .before .before .before .before .before .args .sheet .now)) (record { model = record { links = (c .before .before .before .before .before .before .before .before .before .before .before .before .before .before .before .before .before .before .before .before .before .before .before .before .before .before .args .links .now); axis = (c .before .before .before .before .before .before .before .before .before .before .before .before .before .before .before .before .before .before .before .before .before .before .before .before .before .before .args .axis .now); times = (c .before .before .before .before .before .before .before .before .before .before .before .before .before .before .before .before .before .before .before .before .before .before .before .before .before .before .args .times .now); marks = (c .before .before .before .before .before .before .before .before .before .before .before .before .before .before .before .before .before .before .before .before .before .before .before .before .before .before .args .marks .now) }; positions = (c .before .before .before .before .before .before .before .before .before .before .before .before .before .before .before .before .before .before .before .before .before .before .before .before .before .before .args .positions .now); words = (c .before .before .before .before .before .before .before .before .before .before .before .before .before .before .before .before .before .before .before .before .before .before .before .before .before .before .args .accums .now) }) ((c .before .before .before .before .before .before .before .before .before .before .before .before .before .before .before .before .before .before .before .before .before .before .before .before .before .before .args .header)) _ ((c .before .before .before .before .before .before .before .before .before .before .before .before .before .before .before .before .before .before .wide .ensures)) ((c .before .before .before .before .before .before .before .before .before .before .before .before .before .before .before .before .before .if1 .left)) ((c .before .before .before .before .before .before .before .before .before .before .before .before .before .before .before .before .if2 .left)) ((c .before .before .before .before .before .before .before .before .before .before .before .before .before .before .before .before .before .before .before .before .before .before .before .before .before .before .pre)) _ _ _ ((c .before .v .given .1)) ((c .before .before .before .before .before .before .before .before .before .before .before .fresh .ensures))
+returns-3 c = fill-model ((start-from-wide (search) .args .sheet .now)) (record { model = record { links = (start-from-wide (search) .args .links .now); axis = (start-from-wide (search) .args .axis .now); times = (start-from-wide (search) .args .times .now); marks = (start-from-wide (search) .args .marks .now) }; positions = (start-from-wide (search) .args .positions .now); words = (start-from-wide (search) .args .accums .now) }) ((start-from-wide (search) .args .header)) _ ((after-wide (search) .wide .ensures)) ((else1 (search) .if1 .left)) ((else2 (search) .if2 .left)) ((start-from-wide (search) .pre)) _ _ _ ((c .before .v .given .1)) ((after-fresh (search) .fresh .ensures))
 
 same-length-5 : tie.Need-same-length-5
 same-length-5 c = search needs
@@ -65,7 +90,7 @@ same-length-10 : tie.Need-same-length-10
 same-length-10 c = search needs
 
 returns-4 : tie.Need-returns-4
-returns-4 c = fill-all ((c .before .before .before .before .before .before .before .before .before .before .before .before .before .before .before .before .before .before .before .before .before .before .before .before .before .before .before .before .before .before .before .before .args .sheet .now)) (record { model = record { links = (c .before .before .before .before .before .before .before .before .before .before .before .before .before .before .before .before .before .before .before .before .before .before .before .before .before .before .before .before .before .before .before .before .args .links .now); axis = (c .before .before .before .before .before .before .before .before .before .before .before .before .before .before .before .before .before .before .before .before .before .before .before .before .before .before .before .before .before .before .before .before .args .axis .now); times = (c .before .before .before .before .before .before .before .before .before .before .before .before .before .before .before .before .before .before .before .before .before .before .before .before .before .before .before .before .before .before .before .before .args .times .now); marks = (c .before .before .before .before .before .before .before .before .before .before .before .before .before .before .before .before .before .before .before .before .before .before .before .before .before .before .before .before .before .before .before .before .args .marks .now) }; positions = (c .before .before .before .before .before .before .before .before .before .before .before .before .before .before .before .before .before .before .before .before .before .before .before .before .before .before .before .before .before .before .before .before .args .positions .now); words = (c .before .before .before .before .before .before .before .before .before .before .before .before .before .before .before .before .before .before .before .before .before .before .before .before .before .before .before .before .before .before .before .before .args .accums .now) }) ((c .before .before .before .before .before .before .before .before .before .before .before .before .before .before .before .before .before .before .before .before .before .before .before .before .before .before .before .before .before .before .before .before .args .header)) _ ((c .before .before .before .before .before .before .before .before .before .before .before .before .before .before .before .before .before .before .before .before .before .before .before .before .wide .ensures)) ((c .before .before .before .before .before .before .before .before .before .before .before .before .before .before .before .before .before .before .before .before .before .before .before .if1 .left)) ((c .before .before .before .before .before .before .before .before .before .before .before .before .before .before .before .before .before .before .before .before .before .before .if2 .left)) ((c .before .before .before .before .before .before .before .before .before .before .before .before .before .before .before .before .before .before .before .before .before .before .before .before .before .before .before .before .before .before .before .before .pre)) _ _ _ _ ((c .before .before .before .before .before .before .before .enum-told .given .1)) ((c .before .before .before .before .before .before .before .before .before .before .before .before .before .before .before .before .before .fresh .ensures)) ((c .before .before .before .before .before .fill-starts .ensures)) ((c .before .clear-accums .ensures))
+returns-4 c = fill-all ((start-from-wide (search) .args .sheet .now)) (record { model = record { links = (start-from-wide (search) .args .links .now); axis = (start-from-wide (search) .args .axis .now); times = (start-from-wide (search) .args .times .now); marks = (start-from-wide (search) .args .marks .now) }; positions = (start-from-wide (search) .args .positions .now); words = (start-from-wide (search) .args .accums .now) }) ((start-from-wide (search) .args .header)) _ ((after-wide (search) .wide .ensures)) ((else1 (search) .if1 .left)) ((else2 (search) .if2 .left)) ((start-from-wide (search) .pre)) _ _ _ _ ((after-enum-told (search) .enum-told .given .1)) ((after-fresh (search) .fresh .ensures)) ((after-fill-starts (search) .fill-starts .ensures)) ((c .before .clear-accums .ensures))
 
 pub fill-spec : {M : Type 1} → statement M
 fill-spec =

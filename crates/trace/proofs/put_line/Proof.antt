@@ -25,11 +25,21 @@ put-u32-requires-2 c κs = search needs
 same-length : tie.Need-same-length
 same-length c = search needs
 
+-- The places that the answers look back to: `search` finds each by its type.
+abbrev start : tie.Start → tie.Start
+start x = x
+
+abbrev after-put-u64 : tie.After-put-u64 → tie.After-put-u64
+after-put-u64 x = x
+
+abbrev after-put-u32 : tie.After-put-u32 → tie.After-put-u32
+after-put-u32 x = x
+
 returns : tie.Need-returns
 returns c = (c .before .before .put-u322 .ensures)
-    ∙ ap (λ (l : List ℕ). put l ((c .before .before .before .before .before .before .before .before .before .before .before .before .before .args .i) + 12) (bytes4 ((c .before .before .before .before .before .before .before .before .before .before .before .before .before .args .rec)))) ((c .before .before .before .before .before .before .put-u32 .ensures))
-    ∙ ap (λ (l : List ℕ). put (put l ((c .before .before .before .before .before .before .before .before .before .before .before .before .before .args .i) + 8) (bytes4 ((c .before .before .before .before .before .before .before .before .before .before .before .before .before .args .process)))) ((c .before .before .before .before .before .before .before .before .before .before .before .before .before .args .i) + 12) (bytes4 ((c .before .before .before .before .before .before .before .before .before .before .before .before .before .args .rec)))) ((c .before .before .before .before .before .before .before .before .before .before .put-u64 .ensures))
-    ∙ put-line ((c .before .before .before .before .before .before .before .before .before .before .before .before .before .args .s .now)) ((c .before .before .before .before .before .before .before .before .before .before .before .before .before .args .i)) ((c .before .before .before .before .before .before .before .before .before .before .before .before .before .args .time)) ((c .before .before .before .before .before .before .before .before .before .before .before .before .before .args .process)) ((c .before .before .before .before .before .before .before .before .before .before .before .before .before .args .rec)) ((c .before .before .before .before .before .before .before .before .before .before .before .before .before .pre))
+    ∙ ap (λ (l : List ℕ). put l ((start (search) .args .i) + 12) (bytes4 ((start (search) .args .rec)))) ((after-put-u32 (search) .put-u32 .ensures))
+    ∙ ap (λ (l : List ℕ). put (put l ((start (search) .args .i) + 8) (bytes4 ((start (search) .args .process)))) ((start (search) .args .i) + 12) (bytes4 ((start (search) .args .rec)))) ((after-put-u64 (search) .put-u64 .ensures))
+    ∙ put-line ((start (search) .args .s .now)) ((start (search) .args .i)) ((start (search) .args .time)) ((start (search) .args .process)) ((start (search) .args .rec)) ((start (search) .pre))
 
 pub put-line-spec : {M : Type 1} → statement M
 put-line-spec =

@@ -26,11 +26,18 @@ put-u32-requires-2 c κs = search needs
 same-length : tie.Need-same-length
 same-length c = search needs
 
+-- The places that the answers look back to: `search` finds each by its type.
+abbrev start : tie.Start → tie.Start
+start x = x
+
+abbrev after-put-u32 : tie.After-put-u32 → tie.After-put-u32
+after-put-u32 x = x
+
 returns : tie.Need-returns
 unfolding bytes8 bytes4
 returns c = (c .before .before .put-u322 .ensures)
-    ∙ ap (λ (l : List ℕ). put l ((c .before .before .before .before .before .before .before .before .before .args .i) + 4) (bytes4 ((c .before .before .before .before .before .before .before .before .before .args .x) / 4294967296))) ((c .before .before .before .before .before .before .put-u32 .ensures))
-    ∙ put-put ((c .before .before .before .before .before .before .before .before .before .args .s .now)) ((c .before .before .before .before .before .before .before .before .before .args .i)) (bytes4 ((c .before .before .before .before .before .before .before .before .before .args .x) % 4294967296)) (bytes4 ((c .before .before .before .before .before .before .before .before .before .args .x) / 4294967296)) (omega (arith, (c .before .before .before .before .before .before .before .before .before .pre)))
+    ∙ ap (λ (l : List ℕ). put l ((start (search) .args .i) + 4) (bytes4 ((start (search) .args .x) / 4294967296))) ((after-put-u32 (search) .put-u32 .ensures))
+    ∙ put-put ((start (search) .args .s .now)) ((start (search) .args .i)) (bytes4 ((start (search) .args .x) % 4294967296)) (bytes4 ((start (search) .args .x) / 4294967296)) (omega (arith, (start (search) .pre)))
 
 pub put-u64-spec : {M : Type 1} → statement M
 put-u64-spec =

@@ -34,14 +34,30 @@ enum-known-q c = search needs
 same-length : tie.Need-same-length
 same-length c = search needs
 
+-- The places that the answers look back to: `search` finds each by its type.
+abbrev start : tie.Start → tie.Start
+start x = x
+
+abbrev after-wide : tie.After-wide → tie.After-wide
+after-wide x = x
+
+abbrev after-taken : tie.After-taken → tie.After-taken
+after-taken x = x
+
+abbrev after-updated : tie.After-updated → tie.After-updated
+after-updated x = x
+
+abbrev after-v : tie.After-v → tie.After-v
+after-v x = x
+
 returns : tie.Need-returns
-returns c = in-to _ _ _ _ _ (rw (c .before .before .before .before .before .before .before .before .before .wide .ensures)) _ (c .before .before .before .before .before .before .before .taken .ensures) _ (c .before .before .before .before .before .before .updated .ensures ∙ ap (λ (z : ℤ). updatedOf (c .before .before .before .before .before .before .before .taken .result) (c .before .before .before .before .before .before .before .before .before .before .args .time) z) (kept (c .before .before .before .before .before .before .before .before .before .before .fits .d))) _ _ (c .before .before .before .before .v .given .1) (c .before .put .ensures)
+returns c = in-to _ _ _ _ _ (rw (after-wide (search) .wide .ensures)) _ (after-taken (search) .taken .ensures) _ (after-updated (search) .updated .ensures ∙ ap (λ (z : ℤ). updatedOf (after-taken (search) .taken .result) (start (search) .args .time) z) (kept (start (search) .fits .d))) _ _ (after-v (search) .v .given .1) (c .before .put .ensures)
 
 same-length-2 : tie.Need-same-length-2
 same-length-2 c = search needs
 
 returns-2 : tie.Need-returns-2
-returns-2 c = in-not _ _ _ _ _ (rw (c .before .before .before .before .before .before .wide .ensures)) _ (c .before .before .before .before .taken .ensures) _ (c .before .before .before .updated .ensures ∙ ap (λ (z : ℤ). updatedOf (c .before .before .before .before .taken .result) (c .before .before .before .before .before .before .before .args .time) z) (kept (c .before .before .before .before .before .before .before .fits .d))) _ (c .before .q .given .1)
+returns-2 c = in-not _ _ _ _ _ (rw (after-wide (search) .wide .ensures)) _ (after-taken (search) .taken .ensures) _ (after-updated (search) .updated .ensures ∙ ap (λ (z : ℤ). updatedOf (after-taken (search) .taken .result) (start (search) .args .time) z) (kept (start (search) .fits .d))) _ (c .before .q .given .1)
 
 pub update-in-spec : {M : Type 1} → statement M
 update-in-spec =

@@ -13,11 +13,27 @@ enum-known-read c = search needs
 enum-known-read-2 : tie.Need-enum-known-read-2
 enum-known-read-2 c = search needs
 
+-- The places that the answers look back to: `search` finds each by its type.
+abbrev start : tie.Start → tie.Start
+start x = x
+
+abbrev after-check : tie.After-check → tie.After-check
+after-check x = x
+
+abbrev after-read2 : tie.After-read2 → tie.After-read2
+after-read2 x = x
+
+abbrev after-fill : tie.After-fill → tie.After-fill
+after-fill x = x
+
+abbrev start-from-check : tie.After-check → tie.Start
+start-from-check x = x .before .before .before .before .before .before .before
+
 fill-requires : tie.Need-fill-requires
-fill-requires c κs = sym ((c .before .before .before .before .before .before .before .before .before .check .ensures)) ∙ (c .before .before .before .before .before .before .before .read2 .given .1)
+fill-requires c κs = sym ((after-check (search) .check .ensures)) ∙ (after-read2 (search) .read2 .given .1)
 
 returns : tie.Need-returns
-returns c = filled-8 ((c .before .before .before .before .before .before .before .before .before .before .args .sheet .now)) (record { model = record { links = (c .before .before .before .before .before .before .before .before .before .before .args .links .now); axis = (c .before .before .before .before .before .before .before .before .before .before .args .axis .now); times = (c .before .before .before .before .before .before .before .before .before .before .args .times .now); marks = (c .before .before .before .before .before .before .before .before .before .before .args .marks .now) }; positions = (c .before .before .before .before .before .before .before .before .before .before .args .positions .now); words = (c .before .before .before .before .before .before .before .before .before .before .args .accums .now) }) _ ((c .before .before .before .check .ensures)) _ ((c .before .read .given .1))
+returns c = filled-8 ((start (search) .args .sheet .now)) (record { model = record { links = (start (search) .args .links .now); axis = (start (search) .args .axis .now); times = (start (search) .args .times .now); marks = (start (search) .args .marks .now) }; positions = (start (search) .args .positions .now); words = (start (search) .args .accums .now) }) _ ((after-check (search) .check .ensures)) _ ((c .before .read .given .1))
 
 same-length : tie.Need-same-length
 same-length c = search needs
@@ -38,7 +54,7 @@ same-length-6 : tie.Need-same-length-6
 same-length-6 c = search needs
 
 returns-2 : tie.Need-returns-2
-returns-2 c = filled-accepted ((c .before .before .before .before .before .before .before .before .before .before .before .before .before .before .before .before .before .before .before .before .before .before .before .before .before .before .before .before .args .sheet .now)) (record { model = record { links = (c .before .before .before .before .before .before .before .before .before .before .before .before .before .before .before .before .before .before .before .before .before .before .before .before .before .before .before .before .args .links .now); axis = (c .before .before .before .before .before .before .before .before .before .before .before .before .before .before .before .before .before .before .before .before .before .before .before .before .before .before .before .before .args .axis .now); times = (c .before .before .before .before .before .before .before .before .before .before .before .before .before .before .before .before .before .before .before .before .before .before .before .before .before .before .before .before .args .times .now); marks = (c .before .before .before .before .before .before .before .before .before .before .before .before .before .before .before .before .before .before .before .before .before .before .before .before .before .before .before .before .args .marks .now) }; positions = (c .before .before .before .before .before .before .before .before .before .before .before .before .before .before .before .before .before .before .before .before .before .before .before .before .before .before .before .before .args .positions .now); words = (c .before .before .before .before .before .before .before .before .before .before .before .before .before .before .before .before .before .before .before .before .before .before .before .before .before .before .before .before .args .accums .now) }) _ ((c .before .before .before .before .before .before .before .before .before .before .before .before .before .before .before .before .before .before .before .before .before .check .ensures)) _ _ ((c .before .before .before .before .before .before .before .before .before .before .before .before .before .before .before .before .before .before .before .read2 .given .1)) ((c .before .before .before .before .before .before .before .before .before .before .before .fill .ensures))
+returns-2 c = filled-accepted ((start-from-check (search) .args .sheet .now)) (record { model = record { links = (start-from-check (search) .args .links .now); axis = (start-from-check (search) .args .axis .now); times = (start-from-check (search) .args .times .now); marks = (start-from-check (search) .args .marks .now) }; positions = (start-from-check (search) .args .positions .now); words = (start-from-check (search) .args .accums .now) }) _ ((after-check (search) .check .ensures)) _ _ ((after-read2 (search) .read2 .given .1)) ((after-fill (search) .fill .ensures))
 
 pub fresh-run-spec : {M : Type 1} → statement M
 fresh-run-spec =

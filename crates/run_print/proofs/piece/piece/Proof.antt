@@ -11,8 +11,15 @@ returns c = search needs
 slice-relend-prefix-run : tie.Need-slice-relend-prefix-run
 slice-relend-prefix-run c = search needs
 
+-- The places that the answers look back to: `search` finds each by its type.
+abbrev start : tie.Start → tie.Start
+start x = x
+
+abbrev else1 : tie.Else1 → tie.Else1
+else1 x = x
+
 slice-aggregate-run : tie.Need-slice-aggregate-run
-slice-aggregate-run c = sym (length-take-le ((c .before .before .before .before .before .before .before .before .before .before .before .before .before .before .before .args .k)) ((c .before .before .before .before .before .before .before .before .before .before .before .before .before .before .before .args .trace .now)) (omega (arith, (c .before .before .before .before .before .before .before .if1 .left))))
+slice-aggregate-run c = sym (length-take-le ((start (search) .args .k)) ((start (search) .args .trace .now)) (omega (arith, (else1 (search) .if1 .left))))
 
 run-requires : tie.Need-run-requires
 run-requires c κs = search needs
