@@ -5,9 +5,9 @@ mod show;
 
 use crate::output::say;
 use crate::show::show;
-use sheet_check::check::check;
 use libc::STDIN_FILENO;
 use sheet::header::Checked;
+use sheet_check::check::check;
 
 // The sheet, or that it is refused: "sheet refused 8".
 fn run_sheet(sheet: &[u8]) {
