@@ -47,10 +47,12 @@ edge() {
         diff <(target/host_example examples/worked.sheet) crates/run_print/stdout
 }
 
-# Builds the tests and runs them on the programs: so many calls, and sheets of runs, of the printing program and of the C edge.
+# Checks the page of levels, builds the tests and runs them on the programs: so many calls, and sheets of runs, of the printing program
+# and of the C edge.
 run_tests() {
     local calls=$1 runs=$2 prints=$3 hosts=$4
     local tests=target/tests/release/nodbrize_tests
+    tally one levels python3 docs/levels.py --check
     cargo build --quiet --release --manifest-path tests/Cargo.toml --target-dir target/tests || failed=$((failed + 1))
     tally "$tests" self
     tally "$tests" mutations
