@@ -1,3 +1,2 @@
 -- The edge for a C host.
 pub mod Host
-pub mod Arrays

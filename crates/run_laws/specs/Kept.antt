@@ -88,7 +88,7 @@ module _ (c : Counts) (bytes : List ℕ) (i : ℕ) (u : RunTables) (tr : List �
 
 module _ (c : Counts) (bytes : List ℕ) where
   -- what a turn comes to, by its step
-  abbrev goes : ℕ → ℕ → Stepped → Turned → RanOn
+  abbrev pub goes : ℕ → ℕ → Stepped → Turned → RanOn
   goes n k s d = elim d [ On next ↦ turnsOn c bytes (suc n) k (s .run) (s .trace) | Off r ↦ stoppedOn n (Refused r) (s .run) (s .trace) ]
 
   -- lines are never taken back

@@ -31,5 +31,7 @@ pub mod Fresh
 pub mod Kept
 pub mod Filling
 pub mod Starting
+pub mod GoesOn
 pub mod Parts
+pub mod Arrays
 pub mod Demand3

@@ -8,15 +8,16 @@ pub(crate) fn say(text: &[u8]) {
     io::write_all(STDOUT_FILENO, text);
 }
 
-// Writes the first n bytes, where there are so many.
-pub(crate) fn write_first(out: &[u8], n: usize) {
-    if n <= out.len() {
-        io::write_all(STDOUT_FILENO, &out[..n]);
-    }
+// Writes the first n bytes.
+pub(crate) fn write_first(out: &[u8], n: usize)
+    requires { ⌜ n ≤ length (now out) ⌝ }
+{
+    io::write_all(STDOUT_FILENO, &out[..n]);
 }
 
 // Writes out what stands in the buffer where no further line would fit, and answers the next place.
 pub(crate) fn flushed(out: &[u8; 4096], at: usize) -> usize
+    requires { ⌜ at ≤ 4096 ⌝ }
     ensures { λ r. ⌜ r + 128 ≤ 4096 ⌝ }
 {
     if at <= 3968 {
@@ -40,6 +41,7 @@ pub(crate) fn put_text(out: &mut [u8; 4096], at: usize, text: &[u8]) -> usize
     at + i
 }
 
+// The digits of a number, and how many: at most 20, which is tested here, since the library promises only the fewest that will do.
 fn digits(n: u64, text: &mut [u8; 20]) -> usize
     ensures { λ r. ⌜ r ≤ 20 ⌝ }
 {

@@ -2,15 +2,17 @@
 use crate::output::flushed;
 use crate::output::put_count;
 use crate::output::put_number;
-use machine::End;
 use run::run;
 use run_laws::Ran;
 use words::u32_at;
 use words::u64_at;
-ghost use Prim.Native.Nat.{_+_, _≤_};
+ghost use mathlib.Core.Path.{_≡_};
+ghost use Prim.Native.Nat.{_+_, _*_, _≤_};
 ghost use lib.ListN.{length};
+ghost use Rattle.run_laws.specs.Run.{lent};
+ghost use Rattle.run_print.specs.Pieces.{leftBy};
 
-// The call, with k bytes of the trace.
+// The call, with the first k bytes of the trace.
 pub(crate) fn piece(
     sheet: &[u8],
     links: &mut [u32],
@@ -21,13 +23,11 @@ pub(crate) fn piece(
     accums: &mut [i64],
     trace: &mut [u8],
     k: usize,
-) -> Ran {
-    if trace.len() < k {
-        return Ran {
-            lines: 0,
-            end: End::Finished,
-        };
-    }
+) -> Ran
+    requires { ⌜ k ≤ length (now trace) ⌝ }
+    ensures { λ r. ⌜ record { run = lent (now (links .exit)) (now (axis .exit)) (now (times .exit)) (now (marks .exit)) (now (positions .exit)) (now (accums .exit)); result = r }
+        ≡ leftBy (now (sheet .entry)) (lent (now (links .entry)) (now (axis .entry)) (now (times .entry)) (now (marks .entry)) (now (positions .entry)) (now (accums .entry))) (now (trace .entry)) k ⌝ }
+{
     run(
         sheet,
         links,
@@ -57,18 +57,13 @@ fn put_line(out: &mut [u8; 4096], at: usize, trace: &[u8], i: usize) -> usize
 // The first n lines of the trace.
 pub(crate) fn put_lines(out: &mut [u8; 4096], start: usize, trace: &[u8], n: u32) -> usize
     requires { ⌜ start ≤ 4096 ⌝ }
+    requires { ⌜ 16 * n ≤ length (now trace) ⌝ }
     ensures { λ r. ⌜ r ≤ 4096 ⌝ }
 {
     let mut at = start;
     let mut i = 0;
     let mut k = 0;
     while k < n {
-        if trace.len() < 16 {
-            return at;
-        }
-        if trace.len() - 16 < i {
-            return at;
-        }
         let free = flushed(out, at);
         at = put_line(out, free, trace, i);
         i += 16;

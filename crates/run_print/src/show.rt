@@ -11,9 +11,19 @@ use model::Counts;
 use model::Refusal;
 use ring::wide;
 use run::fresh::fresh_run;
+use run_step::reading::place_now;
+use run_step::reading::record_of;
 use sheet::header::Header;
-ghost use Prim.Native.Nat.{_+_, _≤_};
-ghost use lib.ListN.{length};
+ghost use mathlib.Core.Path.{_≡_};
+ghost use Prim.Native.Nat.{_≤_};
+ghost use lib.ListN.{length, getD};
+ghost use Rattle.model_laws.specs.Now.{half, firstOf};
+ghost use Rattle.sheet.specs.Accepted.{checked};
+ghost use Rattle.sheet.specs.declared.header.Checked.the-variants.{Accepted};
+ghost use Rattle.run_laws.specs.Run.{lent};
+ghost use Rattle.run_laws.specs.Standing.{Standing};
+ghost use Rattle.run_laws.specs.Starting.{Startable};
+ghost use Rattle.run_print.specs.Pieces.{Located};
 
 // Lines of a whole piece, and pieces: 244 whole ones and one of 576 lines are 1,000,000.
 pub const LINES: usize = 4096;
@@ -21,7 +31,9 @@ pub const LINES: usize = 4096;
 pub const WHOLE: usize = 244;
 
 // Trace bytes for piece i.
-fn room(i: usize) -> usize {
+fn room(i: usize) -> usize
+    ensures { λ r. ⌜ r ≤ 65536 ⌝ }
+{
     if i < WHOLE {
         return 65536;
     }
@@ -30,6 +42,7 @@ fn room(i: usize) -> usize {
 
 fn done(out: &mut [u8; 4096], start: usize, word: &[u8], steps: u64)
     requires { ⌜ length (now word) ≤ 12 ⌝ }
+    requires { ⌜ start ≤ 4096 ⌝ }
 {
     let at = flushed(out, start);
     let a = put_text(out, at, word);
@@ -38,7 +51,9 @@ fn done(out: &mut [u8; 4096], start: usize, word: &[u8], steps: u64)
 }
 
 // "refused N at record R after S"
-fn refused(out: &mut [u8; 4096], start: usize, q: Refusal, rec: u32, steps: u64) {
+fn refused(out: &mut [u8; 4096], start: usize, q: Refusal, rec: u32, steps: u64)
+    requires { ⌜ start ≤ 4096 ⌝ }
+{
     let at = flushed(out, start);
     let a = put_text(out, at, b"refused ");
     let b = put_count(out, a, q.number(), b' ');
@@ -50,18 +65,15 @@ fn refused(out: &mut [u8; 4096], start: usize, q: Refusal, rec: u32, steps: u64)
 }
 
 // The record that current is at.
-fn record_now(c: Counts, axis: &[u32], positions: &[u32]) -> u32 {
-    let p = wide(c.processes) + 1;
-    if axis.len() <= p {
-        return 0;
-    }
-    let f = wide(axis[p]);
-    if positions.len() <= f {
-        return 0;
-    }
-    positions[f]
+fn record_now(c: Counts, axis: &[u32], positions: &[u32]) -> u32
+    requires { ⌜ Located c (now axis) (now positions) ⌝ }
+    ensures { λ r. ⌜ r ≡ getD (now (positions .entry)) (firstOf (half c) (now (axis .entry))) 0 ⌝ }
+{
+    let f = place_now(c, axis);
+    record_of(positions, f)
 }
 
+// Piece after piece, on tables of a run of this sheet.
 fn pieces(
     c: Counts,
     sheet: &[u8],
@@ -72,7 +84,10 @@ fn pieces(
     positions: &mut [u32],
     accums: &mut [i64],
     trace: &mut [u8],
-) {
+)
+    requires { ⌜ Standing c (now sheet) (lent (now links) (now axis) (now times) (now marks) (now positions) (now accums)) ⌝ }
+    requires { ⌜ 65536 ≤ length (now trace) ⌝ }
+{
     let mut out = [0u8; 4096];
     let mut at = 0;
     let mut i = 0;
@@ -110,7 +125,9 @@ fn pieces(
 }
 
 // A fresh run over local tables, cut to the sheet's lengths.
-pub(crate) fn show(header: Header, sheet: &[u8]) {
+pub(crate) fn show(header: Header, sheet: &[u8])
+    requires { ⌜ checked (now sheet) ≡ Accepted header ⌝ }
+{
     let c = header.counts;
     let n = c.total() + 1;
     let p = wide(c.processes) + 1;
@@ -121,14 +138,8 @@ pub(crate) fn show(header: Header, sheet: &[u8]) {
     let mut positions = [0u32; 1025];
     let mut accums = [0i64; 192];
     let mut trace = [0u8; 65536];
-    if 8194 < 2 * n {
-        return;
-    }
-    if 1025 < p {
-        return;
-    }
     on_tables(
-        c,
+        header,
         sheet,
         &mut links[..2 * n],
         &mut axis[..2 * (p + 1)],
@@ -140,8 +151,9 @@ pub(crate) fn show(header: Header, sheet: &[u8]) {
     );
 }
 
+// For a sheet that was accepted and tables of its lengths.
 fn on_tables(
-    c: Counts,
+    header: Header,
     sheet: &[u8],
     links: &mut [u32],
     axis: &mut [u32],
@@ -150,8 +162,12 @@ fn on_tables(
     positions: &mut [u32],
     accums: &mut [i64],
     trace: &mut [u8],
-) {
+)
+    requires { ⌜ Startable header (now sheet) (lent (now links) (now axis) (now times) (now marks) (now positions) (now accums)) (now trace) ⌝ }
+    requires { ⌜ 65536 ≤ length (now trace) ⌝ }
+{
     fresh_run(sheet, links, axis, times, marks, positions, accums);
+    let c = header.counts;
     pieces(
         c,
         sheet,

@@ -1,4 +1,4 @@
-use Rattle.host.specs.Arrays.{links-in, axis-in, one-in, links-part, axis-part, one-part, lent-startable}
+use Rattle.run_laws.specs.Arrays.{links-in, axis-in, one-in, links-part, axis-part, one-part, lent-startable}
 use Rattle.host.specs.Host.{host-8, host-long, host-run}
 use Rattle.run_laws.specs.Run.{RanOn}
 use mathlib.Core.Path.{sym, ap, _∙_}

@@ -5,7 +5,7 @@ use Rattle.run_print.proofs.output.write_first.Statement.{statement}
 use Rattle.run_print.proofs.output.write_first.Tie as tie
 
 slice-aggregate-write-all : tie.Need-slice-aggregate-write-all
-slice-aggregate-write-all c = sym (length-take-le _ ((c .before .before .before .args .out .now)) ((c .before .if1 .taken)))
+slice-aggregate-write-all c = sym (length-take-le _ (c .before .before .args .out .now) (c .before .before .pre))
 
 write-all-requires : tie.Need-write-all-requires
 write-all-requires c κs = search needs
@@ -13,9 +13,6 @@ write-all-requires c κs = search needs
 returns : tie.Need-returns
 returns c = search needs
 
-returns-2 : tie.Need-returns-2
-returns-2 c = search needs
-
 pub write-first-spec : {M : Type 1} → statement M
 write-first-spec =
-    tie.close (tie.spec slice-aggregate-write-all write-all-requires returns returns-2)
+    tie.close (tie.spec slice-aggregate-write-all write-all-requires returns)

@@ -1,25 +1,15 @@
 use mathlib.Core.Path.{sym}
 use lib.Seq.{length-take-le}
 use borrow.Author.Needs.{needs}
-use native.Mathlib.Omega.{arith}
+use Rattle.run_print.specs.Pieces.{left-is}
 use Rattle.run_print.proofs.piece.piece.Statement.{statement}
 use Rattle.run_print.proofs.piece.piece.Tie as tie
-
-returns : tie.Need-returns
-returns c = search needs
 
 slice-relend-prefix-run : tie.Need-slice-relend-prefix-run
 slice-relend-prefix-run c = search needs
 
--- The places that the answers look back to: `search` finds each by its type.
-abbrev start : tie.Start → tie.Start
-start x = x
-
-abbrev else1 : tie.Else1 → tie.Else1
-else1 x = x
-
 slice-aggregate-run : tie.Need-slice-aggregate-run
-slice-aggregate-run c = sym (length-take-le ((start (search) .args .k)) ((start (search) .args .trace .now)) (omega (arith, (else1 (search) .if1 .left))))
+slice-aggregate-run c = sym (length-take-le (c .before .before .before .before .before .before .before .before .before .before .before .before .before .before .args .k) (c .before .before .before .before .before .before .before .before .before .before .before .before .before .before .args .trace .now) (c .before .before .before .before .before .before .before .before .before .before .before .before .before .before .pre))
 
 run-requires : tie.Need-run-requires
 run-requires c κs = search needs
@@ -45,14 +35,13 @@ same-length-6 c = search needs
 same-length-7 : tie.Need-same-length-7
 same-length-7 c = search needs
 
-returns-2 : tie.Need-returns-2
-returns-2 c = search needs
+returns : tie.Need-returns
+returns c = left-is (c .before .before .before .before .before .before .before .before .before .before .before .before .before .before .before .before .before .before .before .before .before .before .before .before .before .before .before .before .args .sheet .now) _ (c .before .before .before .before .before .before .before .before .before .before .before .before .before .before .before .before .before .before .before .before .before .before .before .before .before .before .before .before .args .trace .now) (c .before .before .before .before .before .before .before .before .before .before .before .before .before .before .before .before .before .before .before .before .before .before .before .before .before .before .before .before .args .k) _ _ _ (c .before .before .before .before .before .before .before .before .before .before .before .before .before .run .ensures)
 
 pub piece-spec : {M : Type 1} → statement M
 piece-spec =
     tie.close
     (tie.spec
-    returns
     slice-relend-prefix-run
     slice-aggregate-run
     run-requires
@@ -63,4 +52,4 @@ piece-spec =
     same-length-5
     same-length-6
     same-length-7
-    returns-2)
+    returns)

@@ -1,25 +1,17 @@
-use Prim.Native.Nat.{_≤_, _-_}
+use mathlib.Core.Path.{_≡_}
+use Prim.Native.Nat.{_*_, _≤_, _-_}
 use borrow.Author.Needs.{needs}
 use Rattle.run_print.proofs.piece.put_lines.Statement.{statement}
 use Rattle.run_print.proofs.piece.put_lines.Tie as tie
 
 abbrev Inv-loop : tie.InvT-loop
-Inv-loop out₀ start trace n at₀ i₀ k₀ out at i k = at ≤ 4096
+Inv-loop out₀ start trace n at₀ i₀ k₀ out at i k = (at ≤ 4096) × (i ≡ 16 * k) × (k ≤ n)
 
 abbrev μ-loop : tie.MeasureT-loop
 μ-loop out₀ start trace n at₀ i₀ k₀ out at i k = n - k
 
 loop-holds : tie.Need-loop-holds Inv-loop μ-loop
 loop-holds c = search needs
-
-returns : tie.Need-returns Inv-loop μ-loop
-returns c = search needs
-
-sub-if2 : tie.Need-sub-if2 Inv-loop μ-loop
-sub-if2 c = search needs
-
-returns-2 : tie.Need-returns-2 Inv-loop μ-loop
-returns-2 c = search needs
 
 flushed-requires : tie.Need-flushed-requires Inv-loop μ-loop
 flushed-requires c κs = search needs
@@ -39,8 +31,8 @@ loop-less c = search needs
 loop-again : tie.Need-loop-again Inv-loop μ-loop
 loop-again c = search needs
 
-returns-3 : tie.Need-returns-3 Inv-loop μ-loop
-returns-3 c = search needs
+returns : tie.Need-returns Inv-loop μ-loop
+returns c = search needs
 
 pub put-lines-spec : {M : Type 1} → statement M
 put-lines-spec =
@@ -49,13 +41,10 @@ put-lines-spec =
     Inv-loop
     μ-loop
     loop-holds
-    returns
-    sub-if2
-    returns-2
     flushed-requires
     put-line-requires
     add-i
     add-k
     loop-less
     loop-again
-    returns-3)
+    returns)

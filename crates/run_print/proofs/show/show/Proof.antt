@@ -1,5 +1,6 @@
-use Rattle.run_laws.specs.Parts.{part-length}
-use mathlib.Core.Path.{sym}
+use Prim.Native.Nat.{ℕ}
+use lib.ListN.{length-replicate}
+use Rattle.run_laws.specs.Arrays.{links-in, axis-in, one-in, links-part, axis-part, one-part, lent-startable}
 use borrow.Author.Needs.{needs}
 use native.Mathlib.Omega.{arith}
 use Rattle.run_print.proofs.show.show.Statement.{statement}
@@ -17,23 +18,14 @@ wide-requires c κs = search needs
 add-p : tie.Need-add-p
 add-p c = search needs
 
-mul-if1 : tie.Need-mul-if1
-mul-if1 c = search needs
-
-returns : tie.Need-returns
-returns c = search needs
-
-returns-2 : tie.Need-returns-2
-returns-2 c = search needs
-
 mul-links : tie.Need-mul-links
 mul-links c = search needs
 
 array-borrow-prefix-links : tie.Need-array-borrow-prefix-links
-array-borrow-prefix-links c = search needs
+array-borrow-prefix-links c = links-in (c .before .before .before .before .args .sheet .now) _ (c .before .before .before .before .pre) _ (c .before .total .ensures) _ (c .wide .ensures)
 
 slice-aggregate-on-tables : tie.Need-slice-aggregate-on-tables
-slice-aggregate-on-tables c = sym (part-length _ 8194 0 ((c .before .before .if1 .left)))
+slice-aggregate-on-tables c = links-part (c .before .before .before .before .before .args .sheet .now) _ (c .before .before .before .before .before .pre) _ (c .before .before .total .ensures) _ (c .before .wide .ensures)
 
 add-axis : tie.Need-add-axis
 add-axis c = search needs
@@ -42,28 +34,28 @@ mul-axis : tie.Need-mul-axis
 mul-axis c = search needs
 
 array-borrow-prefix-axis : tie.Need-array-borrow-prefix-axis
-array-borrow-prefix-axis c = search needs
+array-borrow-prefix-axis c = axis-in (c .before .before .before .before .before .args .sheet .now) _ (c .before .before .before .before .before .pre) _ (c .before .before .total .ensures) _ (c .before .wide .ensures)
 
 slice-aggregate-on-tables-2 : tie.Need-slice-aggregate-on-tables-2
-slice-aggregate-on-tables-2 c = sym (part-length _ 2052 0 (omega (arith, (c .before .before .if2 .left))))
+slice-aggregate-on-tables-2 c = axis-part (c .before .before .before .before .before .before .args .sheet .now) _ (c .before .before .before .before .before .before .pre) _ (c .before .before .before .total .ensures) _ (c .before .before .wide .ensures)
 
 array-borrow-prefix-times : tie.Need-array-borrow-prefix-times
-array-borrow-prefix-times c = search needs
+array-borrow-prefix-times c = one-in (c .before .before .before .before .before .before .args .sheet .now) _ (c .before .before .before .before .before .before .pre) _ (c .before .before .before .total .ensures) _ (c .before .before .wide .ensures)
 
 slice-aggregate-on-tables-3 : tie.Need-slice-aggregate-on-tables-3
-slice-aggregate-on-tables-3 c = sym (part-length _ 1025 0 ((c .before .before .before .if2 .left)))
+slice-aggregate-on-tables-3 c = one-part (c .before .before .before .before .before .before .before .args .sheet .now) _ (c .before .before .before .before .before .before .before .pre) _ (c .before .before .before .before .total .ensures) _ (c .before .before .before .wide .ensures)
 
 array-borrow-prefix-marks : tie.Need-array-borrow-prefix-marks
-array-borrow-prefix-marks c = search needs
+array-borrow-prefix-marks c = one-in (c .before .before .before .before .before .before .before .args .sheet .now) _ (c .before .before .before .before .before .before .before .pre) _ (c .before .before .before .before .total .ensures) _ (c .before .before .before .wide .ensures)
 
 slice-aggregate-on-tables-4 : tie.Need-slice-aggregate-on-tables-4
-slice-aggregate-on-tables-4 c = sym (part-length _ 1025 0 ((c .before .before .before .before .if2 .left)))
+slice-aggregate-on-tables-4 c = one-part (c .before .before .before .before .before .before .before .before .args .sheet .now) _ (c .before .before .before .before .before .before .before .before .pre) _ (c .before .before .before .before .before .total .ensures) _ (c .before .before .before .before .wide .ensures)
 
 array-borrow-prefix-positions : tie.Need-array-borrow-prefix-positions
-array-borrow-prefix-positions c = search needs
+array-borrow-prefix-positions c = one-in (c .before .before .before .before .before .before .before .before .args .sheet .now) _ (c .before .before .before .before .before .before .before .before .pre) _ (c .before .before .before .before .before .total .ensures) _ (c .before .before .before .before .wide .ensures)
 
 slice-aggregate-on-tables-5 : tie.Need-slice-aggregate-on-tables-5
-slice-aggregate-on-tables-5 c = sym (part-length _ 1025 0 ((c .before .before .before .before .before .if2 .left)))
+slice-aggregate-on-tables-5 c = one-part (c .before .before .before .before .before .before .before .before .before .args .sheet .now) _ (c .before .before .before .before .before .before .before .before .before .pre) _ (c .before .before .before .before .before .before .total .ensures) _ (c .before .before .before .before .before .wide .ensures)
 
 slice-aggregate-on-tables-6 : tie.Need-slice-aggregate-on-tables-6
 slice-aggregate-on-tables-6 c = search needs
@@ -72,10 +64,10 @@ slice-aggregate-on-tables-7 : tie.Need-slice-aggregate-on-tables-7
 slice-aggregate-on-tables-7 c = search needs
 
 on-tables-requires : tie.Need-on-tables-requires
-on-tables-requires c κs = search needs
+on-tables-requires c κs = (lent-startable (c .before .before .before .before .before .before .before .before .before .before .before .args .sheet .now) _ (c .before .before .before .before .before .before .before .before .before .before .before .pre) _ (c .before .before .before .before .before .before .before .before .total .ensures) _ (c .before .before .before .before .before .before .before .wide .ensures) _ (omega (arith, length-replicate {A = ℕ} 65536 0)), omega (arith, length-replicate {A = ℕ} 65536 0))
 
-returns-3 : tie.Need-returns-3
-returns-3 c = search needs
+returns : tie.Need-returns
+returns c = search needs
 
 pub show-spec : {M : Type 1} → statement M
 show-spec =
@@ -85,9 +77,6 @@ show-spec =
     add-n
     wide-requires
     add-p
-    mul-if1
-    returns
-    returns-2
     mul-links
     array-borrow-prefix-links
     slice-aggregate-on-tables
@@ -104,4 +93,4 @@ show-spec =
     slice-aggregate-on-tables-6
     slice-aggregate-on-tables-7
     on-tables-requires
-    returns-3)
+    returns)

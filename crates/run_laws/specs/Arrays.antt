@@ -1,4 +1,4 @@
--- The first parts of the local arrays have a sheet's lengths.
+-- Local arrays of the greatest lengths, for a caller that keeps a run's tables: their first parts have a sheet's lengths.
 use Prim.Native.Nat.{ℕ, _+_, _*_, _≤_}
 use mathlib.Core.Path.{_≡_, sym, ap, _∙_, subst}
 use mathlib.Core.List.{List}

@@ -1,0 +1,2 @@
+-- The printing program: what a piece of a run leaves.
+pub mod Pieces
