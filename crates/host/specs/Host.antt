@@ -18,7 +18,7 @@ use Rattle.sheet.specs.Sheet.{countsOf, sheetOf}
 use Rattle.sheet.specs.Accepted.{accepted, checked}
 use Rattle.sheet.specs.Ranges.{checked-yes, checked-no}
 use Rattle.machine.specs.Machine.{fresh}
-use Rattle.machine.specs.Run.{call}
+use Rattle.machine.specs.Run.{call, lineSize, traceLimit}
 use Rattle.machine.specs.Run as machine
 use Rattle.run_laws.specs.declared.Ran.{Ran}
 use Rattle.run_laws.specs.Run.{runOn, judgedRun, endCode, ranNumber}
@@ -34,7 +34,7 @@ pub record Hosted : Type 0 where
 
 -- what the machine's call says: its lines' bytes and then the trace as it was lent; lines × 256 + code
 abbrev pub told : machine.Ran → List ℕ → Hosted
-told r tr = record { trace = linesBytes (r .lines) ++ drop (16 * length (r .lines)) tr; number = length (r .lines) * 256 + endCode (r .end) }
+told r tr = record { trace = linesBytes (r .lines) ++ drop (lineSize * length (r .lines)) tr; number = length (r .lines) * 256 + endCode (r .end) }
 
 -- a sheet that is not accepted is refused with 8; else it is one call of the machine, from fresh
 unfoldable pub hosted : List ℕ → List ℕ → Hosted
@@ -63,12 +63,12 @@ module _ (bytes tr : List ℕ) (k : Checked) (ek : k ≡ checked bytes) where
     yes : (accepted bytes ≡ true) × (h .counts ≡ countsOf bytes)
     yes = let y = checked-yes bytes h (sym ek ∙ e) in (y .0, ap (λ (j : Header). j .counts) (y .1))
 
-    pub host-long : 65536 < length tr → (r : ℕ) → r ≡ refusalNumber Size → record { trace = tr; number = r } ≡ hosted bytes tr
+    pub host-long : traceLimit < length tr → (r : ℕ) → r ≡ refusalNumber Size → record { trace = tr; number = r } ≡ hosted bytes tr
     unfolding hosted call endCode
-    host-long l r f = rw (yes .0, lt-leb (length tr) 65536 l) (ap (λ (j : ℕ). record { trace = tr; number = j }) f)
+    host-long l r f = rw (yes .0, lt-leb (length tr) traceLimit l) (ap (λ (j : ℕ). record { trace = tr; number = j }) f)
 
     -- a short trace: what the runner started is what a run call of the fresh tables leaves
-    same-run : length tr ≤ 65536 → startedOn (h .counts) bytes tr ≡ runOn bytes (freshRun (countsOf bytes) bytes) tr
+    same-run : length tr ≤ traceLimit → startedOn (h .counts) bytes tr ≡ runOn bytes (freshRun (countsOf bytes) bytes) tr
     unfolding startedOn
     same-run l =
         ap (λ (c : Counts). startedOn c bytes tr) (yes .1)
@@ -76,7 +76,7 @@ module _ (bytes tr : List ℕ) (k : Checked) (ek : k ≡ checked bytes) where
         ∙ ap (λ v. judgedRun v (countsOf bytes) bytes (freshRun (countsOf bytes) bytes) tr)
         (judged-short bytes (yes .0) (fresh (sheetOf bytes)) (freshRun (countsOf bytes) bytes) (fresh-stands bytes (yes .0)) (length tr) l))
 
-    pub host-run : length tr ≤ 65536 → (t : List ℕ) (r : Ran) (n : ℕ) → record { trace = t; result = r } ≡ startedHere (h .counts) bytes tr → n ≡ ranNumber r
+    pub host-run : length tr ≤ traceLimit → (t : List ℕ) (r : Ran) (n : ℕ) → record { trace = t; result = r } ≡ startedHere (h .counts) bytes tr → n ≡ ranNumber r
         → record { trace = t; number = n } ≡ hosted bytes tr
     unfolding hosted ranNumber
     host-run l t r n f g =

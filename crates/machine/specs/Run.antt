@@ -13,6 +13,13 @@ use Rattle.machine.specs.declared.End.the-variants.{Finished, Full, Refu
 use Rattle.machine.specs.Machine.{Machine, fresh}
 use Rattle.machine.specs.Steps.{recordNow, Line, Turn, ended, stepped, step}
 
+-- "fewer than 16 trace bytes left, full", and "trace above 65,536 bytes"
+abbrev pub lineSize : ℕ
+lineSize = 16
+
+abbrev pub traceLimit : ℕ
+traceLimit = 65536
+
 -- "main current at position 0, finished"
 abbrev pub atEnd : Sheet → Machine → Bool
 atEnd s m = eqb (current (m .lists)) (main (s .counts)) && eqb (recordNow s m) 0
@@ -45,7 +52,7 @@ turns s (suc room) m = elim (turn s (suc room) m) [ ended e ↦ stopped e m | st
 -- a call with a trace buffer of so many bytes: "trace above 65,536 bytes" is 1, and takes no turn; a line takes 16 bytes, so fewer
 -- than 16 are left after len / 16 lines
 unfoldable pub call : Sheet → ℕ → Machine → Ran
-call s len m = if leb len 65536 then turns s (len / 16) m else stopped (Refused Size) m
+call s len m = if leb len traceLimit then turns s (len / lineSize) m else stopped (Refused Size) m
 
 -- ---- a list of run calls, "each has .. the run as the last left it"
 

@@ -13,6 +13,7 @@ use Rattle.model_laws.specs.Now.{time, current}
 use Rattle.simset_laws.specs.Sets.{noLinks}
 use Rattle.sheet.specs.declared.records.Record.{Record}
 use Rattle.sheet.specs.Sheet.{Sheet}
+use Rattle.sheet.specs.Accepted.{operandBase}
 use Rattle.machine.specs.declared.End.{End}
 use Rattle.machine.specs.declared.End.the-variants.{Refused}
 use Rattle.machine.specs.Machine.{Machine, positionOf, withPosition}
@@ -25,7 +26,7 @@ firstIn (x ∷ l) = x
 
 -- "0 to N, or 65,536 for current, or 65,536 + h .. for the first member of head h (none if empty)"
 unfoldable pub operandOf : Lists → ℕ → ℕ
-operandOf l v = if ltb v 65536 then v else if eqb v 65536 then current l else firstIn (membersOf (l .sets) (v - 65536))
+operandOf l v = if ltb v operandBase then v else if eqb v operandBase then current l else firstIn (membersOf (l .sets) (v - operandBase))
 
 -- the call of a record whose operands are x and y; "in 13, x is 1 to 64", and such a number stands for itself
 unfoldable pub callOf : Record → ℕ → ℕ → Call

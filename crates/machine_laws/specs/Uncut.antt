@@ -12,7 +12,7 @@ use Rattle.sheet.specs.Sheet.{Sheet}
 use Rattle.machine.specs.declared.End.the-variants.{Full, Refused}
 use Rattle.machine.specs.Machine.{Machine}
 use Rattle.machine.specs.Steps.{Line, Turn, ended, stepped}
-use Rattle.machine.specs.Run.{turn, Ran, stopped, alsoLine, turns, call, calls, lastOf, linesOf, onward, uncut, uncutLines}
+use Rattle.machine.specs.Run.{turn, Ran, stopped, alsoLine, turns, call, calls, lastOf, linesOf, onward, uncut, uncutLines, lineSize, traceLimit}
 
 module _ (s : Sheet) where
   -- accepted steps lead from m to k and write these lines
@@ -67,13 +67,13 @@ module _ (s : Sheet) where
 
   pub path-call : (len : ℕ) (m : Machine) → Path m (call s len m .lines) (call s len m .machine)
   unfolding call
-  path-call len m = go (leb len 65536)
+  path-call len m = go (leb len traceLimit)
     where
       ran : Bool → Ran
-      ran b = if b then turns s (len / 16) m else stopped (Refused Size) m
+      ran b = if b then turns s (len / lineSize) m else stopped (Refused Size) m
 
       go : (b : Bool) → Path m (ran b .lines) (ran b .machine)
-      go true = path-turns (len / 16) m
+      go true = path-turns (len / lineSize) m
       go false = refl
 
   path-calls : (lens : List ℕ) (m : Machine) → Path m (linesOf (calls s m lens)) (lastOf m (calls s m lens))

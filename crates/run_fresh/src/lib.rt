@@ -11,13 +11,14 @@ ghost use lib.IntN.{pos};
 ghost use lib.ListN.{length, replicate};
 ghost use Rattle.sheet.specs.Accepted.{checked};
 ghost use Rattle.sheet.specs.declared.header.Checked.the-variants.{Accepted};
+ghost use Rattle.sheet.specs.Sheet.{headerBytes};
 ghost use Rattle.run_laws.specs.Run.{lent};
 ghost use Rattle.run_laws.specs.Fresh.{startsAre, filledFor};
 
 // Each process at the record where it begins.
 fn fill_starts(sheet: &[u8], processes: u32, positions: &mut [u32])
     requires { ⌜ length (now positions) ≡ processes + 1 ⌝ }
-    requires { ⌜ 16 + 4 * processes ≤ length (now sheet) ⌝ }
+    requires { ⌜ headerBytes + 4 * processes ≤ length (now sheet) ⌝ }
     ensures { λ _. ⌜ now (positions .exit) ≡ startsAre processes (now (sheet .entry)) ⌝ }
 {
     positions[0] = 0;

@@ -12,10 +12,11 @@ use Rattle.sheet.specs.declared.header.Header.{Header}
 use Rattle.sheet.specs.declared.header.Checked.the-variants.{Accepted}
 use Rattle.sheet.specs.Accepted.{checked}
 use Rattle.sheet.specs.Ranges.{checked-yes, allowed-counts}
-use Rattle.run_laws.specs.Run.{RunTables}
+use Rattle.run_laws.specs.Run.{RunTables, runWords}
 use Rattle.run_laws.specs.Fresh.{sizesFine}
 use Rattle.run_laws.specs.Starting.{Startable}
 use Rattle.run_laws.specs.Parts.{part-length}
+use Rattle.machine.specs.Run.{traceLimit}
 
 -- the counts of an accepted sheet are in their limits
 pub header-allowed : (bytes : List ℕ) (h : Header) → checked bytes ≡ Accepted h → Allowed (h .counts)
@@ -24,10 +25,10 @@ header-allowed bytes h e =
     subst Allowed (sym (ap (λ (k : Header). k .counts) (y .1))) (allowed-counts bytes (y .0))
 
 -- tables of these lengths will do
-pub startable : (h : Header) (bytes : List ℕ) (u : RunTables) (tr : List ℕ) → checked bytes ≡ Accepted h → length tr ≤ 65536
+pub startable : (h : Header) (bytes : List ℕ) (u : RunTables) (tr : List ℕ) → checked bytes ≡ Accepted h → length tr ≤ traceLimit
     → length (u .model .links) ≡ 2 * (total (h .counts) + 1) → length (u .model .axis) ≡ 2 * (h .counts .processes + 2)
     → length (u .model .times) ≡ h .counts .processes + 1 → length (u .model .marks) ≡ h .counts .processes + 1
-    → length (u .positions) ≡ h .counts .processes + 1 → length (u .words) ≡ 192 → Startable h bytes u tr
+    → length (u .positions) ≡ h .counts .processes + 1 → length (u .words) ≡ runWords → Startable h bytes u tr
 unfolding sizesFine lengthsFine
 startable h bytes u tr ok short l a t m p w =
     record {
@@ -63,7 +64,7 @@ module _ (bytes : List ℕ) (h : Header) (ok : checked bytes ≡ Accepted h) (N 
   one-length : length {A = ℕ} (take (P + 1) (replicate 1025 0)) ≡ h .counts .processes + 1
   one-length = sym one-part ∙ ap (λ (k : ℕ). k + 1) eP
 
-  pub lent-startable : (tr : List ℕ) → length tr ≤ 65536
+  pub lent-startable : (tr : List ℕ) → length tr ≤ traceLimit
       → Startable h bytes
       (record {
         model =
@@ -74,11 +75,11 @@ module _ (bytes : List ℕ) (h : Header) (ok : checked bytes ≡ Accepted h) (N 
               marks = take (P + 1) (replicate 1025 0);
             };
         positions = take (P + 1) (replicate 1025 0);
-        words = replicate 192 (pos 0);
+        words = replicate runWords (pos 0);
       })
       tr
   lent-startable tr short =
       startable h bytes _ tr ok short
       (sym links-part ∙ ap (λ (k : ℕ). 2 * (k + 1)) eN)
       (sym axis-part ∙ omega arith)
-      one-length one-length one-length (length-replicate 192 (pos 0))
+      one-length one-length one-length (length-replicate runWords (pos 0))

@@ -9,6 +9,7 @@ use Rattle.ring_laws.specs.Lists.{clash}
 use Rattle.model.specs.declared.Counts.{Counts}
 use Rattle.model.specs.declared.Refusal.{Refusal}
 use Rattle.machine.specs.declared.End.the-variants.{Refused as Ended}
+use Rattle.machine.specs.Run.{lineSize}
 use Rattle.run_laws.specs.declared.Pause.{Pause}
 use Rattle.run_laws.specs.declared.Pause.the-variants.{Full, Apart as Due, Refused as Stopped}
 use Rattle.run_laws.specs.declared.Stretch.{Stretch}
@@ -17,20 +18,20 @@ use Rattle.run_laws.specs.Turning.{Turning, turning-then}
 use Rattle.run_laws.specs.Paused.{leftBy, isFull, isDue, Paused}
 
 module _ (c : Counts) (bytes : List ℕ) (room n : ℕ) (whole : RanOn) (u₀ : RunTables) (tr₀ : List ℕ) (u : RunTables) (tr : List ℕ) (t : Turning c bytes room n whole u₀ tr₀ u tr)
-    (u′ : RunTables) (tr′ : List ℕ) (s : Stretch) (p : Paused c bytes n (turnsOn c bytes n (length tr / 16 - n) u tr) tr u′ tr′ s) where
-  same-room : room ≡ length tr / 16
+    (u′ : RunTables) (tr′ : List ℕ) (s : Stretch) (p : Paused c bytes n (turnsOn c bytes n (length tr / lineSize - n) u tr) tr u′ tr′ s) where
+  same-room : room ≡ length tr / lineSize
   same-room = omega (arith, t .room-is, t .size)
 
-  part-is : turnsOn c bytes n (length tr / 16 - n) u tr ≡ whole
-  part-is = t .same (length tr / 16 - n) (omega (arith, t .few, same-room))
+  part-is : turnsOn c bytes n (length tr / lineSize - n) u tr ≡ whole
+  part-is = t .same (length tr / lineSize - n) (omega (arith, t .few, same-room))
 
   pub paused-on : (isFull (s .pause) || isDue (s .pause)) ≡ true → Turning c bytes room (s .lines) whole u₀ tr₀ u′ tr′
   paused-on g =
-      turning-then c bytes room n (s .lines) whole (turnsOn c bytes n (length tr / 16 - n) u tr) u₀ tr₀ u tr u′ tr′ t part-is (p .stands g) (p .size)
+      turning-then c bytes room n (s .lines) whole (turnsOn c bytes n (length tr / lineSize - n) u tr) u₀ tr₀ u tr u′ tr′ t part-is (p .stands g) (p .size)
       (omega (arith, p .few, same-room)) (λ k e. left k (s .pause) (p .left k (omega (arith, same-room))) g)
     where
-      left : (k : ℕ) (q : Pause) → leftBy c bytes q (s .lines) k u′ tr′ ≡ turnsOn c bytes n (length tr / 16 - n) u tr → (isFull q || isDue q) ≡ true
-          → turnsOn c bytes (s .lines) k u′ tr′ ≡ turnsOn c bytes n (length tr / 16 - n) u tr
+      left : (k : ℕ) (q : Pause) → leftBy c bytes q (s .lines) k u′ tr′ ≡ turnsOn c bytes n (length tr / lineSize - n) u tr → (isFull q || isDue q) ≡ true
+          → turnsOn c bytes (s .lines) k u′ tr′ ≡ turnsOn c bytes n (length tr / lineSize - n) u tr
       left k Full e z = e
       left k Due e z = e
       left k (Stopped x) e z = clash z
@@ -38,8 +39,8 @@ module _ (c : Counts) (bytes : List ℕ) (room n : ℕ) (whole : RanOn) (u₀ : 
   pub paused-off : (k : ℕ) → k ≡ s .lines → (x : Refusal) → s .pause ≡ Stopped x → stoppedOn k (Ended x) u′ tr′ ≡ whole
   paused-off k ek x e =
       ap (λ (j : ℕ). stoppedOn j (Ended x) u′ tr′) ek
-      ∙ sym (ap (λ (q : Pause). leftBy c bytes q (s .lines) (length tr / 16 - s .lines) u′ tr′) e)
-      ∙ p .left (length tr / 16 - s .lines) (omega (arith, p .few))
+      ∙ sym (ap (λ (q : Pause). leftBy c bytes q (s .lines) (length tr / lineSize - s .lines) u′ tr′) e)
+      ∙ p .left (length tr / lineSize - s .lines) (omega (arith, p .few))
       ∙ part-is
 
   pub few-lines : s .lines ≤ 4096

@@ -22,7 +22,7 @@ use Rattle.trace.specs.Lines.{put}
 use Rattle.trace.specs.Put.{length-line}
 use Rattle.machine.specs.Machine.{Machine}
 use Rattle.machine.specs.Steps.{Line}
-use Rattle.machine.specs.Run.{call}
+use Rattle.machine.specs.Run.{call, lineSize, traceLimit}
 use Rattle.machine.specs.Run as machine
 use Rattle.run_laws.specs.Run.{RunTables, runJudged, RanOn, judgedRun, checkedRun, runOn}
 use Rattle.run_laws.specs.Standing.{Stands, Standing, sized, positions-length, words-length}
@@ -36,11 +36,11 @@ pub record Agrees (bytes b : List ℕ) (r : machine.Ran) (o : RanOn) : Type 0 wh
   pub lines : o .result .lines ≡ length (r .lines)
   pub end : o .result .end ≡ r .end
   -- its lines' bytes; "trace bytes after its lines are as they were lent"
-  pub trace : o .trace ≡ linesBytes (r .lines) ++ drop (16 * length (r .lines)) b
+  pub trace : o .trace ≡ linesBytes (r .lines) ++ drop (lineSize * length (r .lines)) b
   -- "The tables are the well-formed ones that spell the machine's sets, notices and marks; positions, accumulators .. are the machine's"
   pub tables : Stands (countsOf bytes) (recordsOf bytes) (r .machine) (o .run)
 
-lines-length : (ls : List Line) → length (linesBytes ls) ≡ 16 * length ls
+lines-length : (ls : List Line) → length (linesBytes ls) ≡ lineSize * length ls
 lines-length [] = refl
 lines-length (l ∷ ls) = length-append (bytesOf l) (linesBytes ls) ∙ omega (arith, length-line (l .time) (l .process) (l .rec), lines-length ls)
 
@@ -78,11 +78,11 @@ module _ (bytes : List ℕ) (ok : accepted bytes ≡ true) (m : Machine) (u : Ru
       at zero = omega arith
       at (suc i) = g .positions-in i
 
-  pub judged-short : (len : ℕ) → len ≤ 65536 → runJudged c (recordsOf bytes) u len ≡ Fine
+  pub judged-short : (len : ℕ) → len ≤ traceLimit → runJudged c (recordsOf bytes) u len ≡ Fine
   judged-short len l =
       sym (tables-fine c (recordsOf bytes) u len true lengths refl (c .processes) refl (positions-length c bytes u stood) (words-length c bytes u stood) l Fine Fine tables refl positions)
 
-  pub judged-long : (len : ℕ) → 65536 < len → runJudged c (recordsOf bytes) u len ≡ Judged Size
+  pub judged-long : (len : ℕ) → traceLimit < len → runJudged c (recordsOf bytes) u len ≡ Judged Size
   judged-long len l =
       sym (trace-size c (recordsOf bytes) u len true lengths refl (c .processes) refl (positions-length c bytes u stood) (words-length c bytes u stood) l)
 
@@ -101,15 +101,15 @@ module _ (bytes : List ℕ) (ok : accepted bytes ≡ true) (m : Machine) (u : Ru
       record {
         lines = omega (arith, t .lines);
         end = t .end;
-        trace = t .trace ∙ put-first b (linesBytes (r .lines)) (16 * length (r .lines)) (lines-length (r .lines));
+        trace = t .trace ∙ put-first b (linesBytes (r .lines)) (lineSize * length (r .lines)) (lines-length (r .lines));
         tables = t .run;
       }
 
   pub call-agrees : (b : List ℕ) → Agrees bytes b (call s (length b) m) (runOn bytes u b)
   unfolding call
   call-agrees b =
-      below 65536 (length b)
-      (λ l. rw (by-judge b, judged-long (length b) l, lt-leb (length b) 65536 l)
+      below traceLimit (length b)
+      (λ l. rw (by-judge b, judged-long (length b) l, lt-leb (length b) traceLimit l)
       (record { lines = refl; end = refl; trace = refl; tables = g }))
-      (λ l. rw (by-judge b, judged-short (length b) l, le-leb (length b) 65536 l)
-      (from-turns b _ _ (turns-are bytes ok (length b / 16) 0 m u b g (omega arith))))
+      (λ l. rw (by-judge b, judged-short (length b) l, le-leb (length b) traceLimit l)
+      (from-turns b _ _ (turns-are bytes ok (length b / lineSize) 0 m u b g (omega arith))))

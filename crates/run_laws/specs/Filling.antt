@@ -23,10 +23,10 @@ use Rattle.model_laws.specs.Fresh.{freshTables, freshed}
 use Rattle.sheet.specs.declared.header.Header.{Header}
 use Rattle.sheet.specs.declared.header.Checked.{Checked}
 use Rattle.sheet.specs.declared.header.Checked.the-variants.{Accepted, Refused as NotAccepted}
-use Rattle.sheet.specs.Sheet.{countsOf, startOffset, startAt}
+use Rattle.sheet.specs.Sheet.{countsOf, startOffset, startAt, headerBytes}
 use Rattle.sheet.specs.Accepted.{checked}
 use Rattle.sheet.specs.Ranges.{checked-yes, allowed-counts, exact-length}
-use Rattle.run_laws.specs.Run.{runOf, RunTables}
+use Rattle.run_laws.specs.Run.{runOf, RunTables, runWords}
 use Rattle.run_laws.specs.Fresh.{startsAre, freshRun, Filled, sizesFine, filledFor, filled}
 
 -- ---- zeros in the accumulators' words, up to i
@@ -85,7 +85,7 @@ starting bytes P n ps e l =
     none y a b = omega arith
 
 module _ (bytes : List ℕ) (n : ℕ) (ps : List ℕ) (p : ℕ) (z : Starting bytes n ps p) where
-  pub start-inside : (P : ℕ) → n ≡ P → p < n → 16 + 4 * P ≤ length bytes → startOffset (p + 1) + 4 ≤ length bytes
+  pub start-inside : (P : ℕ) → n ≡ P → p < n → headerBytes + 4 * P ≤ length bytes → startOffset (p + 1) + 4 ≤ length bytes
   start-inside P e l b = omega arith
 
   pub starting-turn : p < n → (v : ℕ) → v ≡ startAt bytes (p + 1) → Starting bytes n (set ps (p + 1) v) (p + 1)
@@ -118,17 +118,17 @@ module _ (bytes : List ℕ) (u : RunTables) (h : Header) where
     pub at : length (u .positions) ≡ h .counts .processes + 1
     at = np ∙ ap (λ (k : ℕ). k + 1) e
 
-    pub fill-words : length (u .words) ≢ 192 → record { run = u; answer = Judged Size } ≡ filledFor (Accepted h) bytes u
+    pub fill-words : length (u .words) ≢ runWords → record { run = u; answer = Judged Size } ≡ filledFor (Accepted h) bytes u
     unfolding sizesFine
-    fill-words n = rw (eq-eqb (length (u .positions)) (h .counts .processes + 1) at, ne-eqb (length (u .words)) 192 n)
+    fill-words n = rw (eq-eqb (length (u .positions)) (h .counts .processes + 1) at, ne-eqb (length (u .words)) runWords n)
 
-    module _ (nw : length (u .words) ≡ 192) (ok : checked bytes ≡ Accepted h) where
+    module _ (nw : length (u .words) ≡ runWords) (ok : checked bytes ≡ Accepted h) where
       allowed : inLimits (h .counts) ≡ true
       allowed =
           let y = checked-yes bytes h ok in
           subst (λ (k : Counts). inLimits k ≡ true) (sym (ap (λ (k : Header). k .counts) (y .1))) (allowed-limits (countsOf bytes) (allowed-counts bytes (y .0)))
 
-      pub starts-inside : 16 + 4 * h .counts .processes ≤ length bytes
+      pub starts-inside : headerBytes + 4 * h .counts .processes ≤ length bytes
       starts-inside =
           let y = checked-yes bytes h ok in
           let q : h .counts .processes ≡ countsOf bytes .processes = ap (λ (k : Header). k .counts .processes) (y .1) in
@@ -149,7 +149,7 @@ module _ (bytes : List ℕ) (u : RunTables) (h : Header) where
           (λ l. let z : record { tables = t; answer = Judged q } ≡ record { tables = freshTables (h .counts); answer = Fine } = f ∙ model-says ∙ (rw l) in
           let w : Judged q ≡ Fine = ap (λ (a : After Verdict). a .answer) z in let y : false ≡ true = cc in clash y)
           (λ l. let z : record { tables = t; answer = Judged q } ≡ record { tables = u .model; answer = Judged Size } = f ∙ model-says ∙ (rw l) in
-          rw (eq-eqb (length (u .positions)) (h .counts .processes + 1) at, eq-eqb (length (u .words)) 192 nw, l)
+          rw (eq-eqb (length (u .positions)) (h .counts .processes + 1) at, eq-eqb (length (u .words)) runWords nw, l)
           (ap (λ (a : After Verdict). record { run = runOf (a .tables) (u .positions) (u .words); answer = a .answer }) z))
 
       pub fill-all : (t : Tables) (ps : List ℕ) (w : List ℤ) (v : Verdict) → v ≡ Fine → record { tables = t; answer = v } ≡ freshed (h .counts) (u .model)
@@ -160,7 +160,7 @@ module _ (bytes : List ℕ) (u : RunTables) (h : Header) where
           test (lengthsFine (h .counts) (u .model))
           (λ l. let z : record { tables = t; answer = v } ≡ record { tables = freshTables (h .counts); answer = Fine } = f ∙ model-says ∙ (rw l) in
           let y : t ≡ freshTables (h .counts) = ap (λ (a : After Verdict). a .tables) z in
-          rw (eq-eqb (length (u .positions)) (h .counts .processes + 1) at, eq-eqb (length (u .words)) 192 nw, l)
+          rw (eq-eqb (length (u .positions)) (h .counts .processes + 1) at, eq-eqb (length (u .words)) runWords nw, l)
           (λ i. record { run = runOf (y i) (eps i) ((ew ∙ ap (λ (n : ℕ). replicate n (pos 0)) nw) i); answer = Fine }))
           (λ l. let z : record { tables = t; answer = v } ≡ record { tables = u .model; answer = Judged Size } = f ∙ model-says ∙ (rw l) in
           let w : Fine ≡ Judged Size = sym ev ∙ ap (λ (a : After Verdict). a .answer) z in let y : false ≡ true = cc in clash y)

@@ -13,7 +13,7 @@ use Rattle.sheet.specs.declared.header.Checked.{Checked}
 use Rattle.sheet.specs.declared.header.Checked.the-variants.{Accepted, Refused as NotAccepted}
 use Rattle.sheet.specs.Sheet.{recordsOf, sheetOf}
 use Rattle.sheet.specs.Accepted.{checked}
-use Rattle.machine.specs.Run.{call}
+use Rattle.machine.specs.Run.{call, lineSize}
 use Rattle.run_laws.specs.Run.{RunTables, Turned, On, Off, stepOn, endsNow, turnsOn, runJudged, judgedRun, checkedRun, runOn}
 use Rattle.run_laws.specs.Standing.{Stands, Standing}
 use Rattle.run_laws.specs.CallFollows.{call-agrees}
@@ -50,23 +50,23 @@ module _ (c : Counts) (bytes : List ℕ) where
   turns-room n (suc k) u tr =
       test (endsNow c (u .model .axis) (u .positions))
       (λ e. rw e (omega arith))
-      (λ e. rw e (go (stepOn c bytes (16 * n) u tr .turned)
-      (turns-room (suc n) k (stepOn c bytes (16 * n) u tr .run) (stepOn c bytes (16 * n) u tr .trace))))
+      (λ e. rw e (go (stepOn c bytes (lineSize * n) u tr .turned)
+      (turns-room (suc n) k (stepOn c bytes (lineSize * n) u tr .run) (stepOn c bytes (lineSize * n) u tr .trace))))
     where
-      go : (d : Turned) → turnsOn c bytes (suc n) k (stepOn c bytes (16 * n) u tr .run) (stepOn c bytes (16 * n) u tr .trace) .result .lines ≤ suc n + k
-          → goes c bytes n k (stepOn c bytes (16 * n) u tr) d .result .lines ≤ n + suc k
+      go : (d : Turned) → turnsOn c bytes (suc n) k (stepOn c bytes (lineSize * n) u tr .run) (stepOn c bytes (lineSize * n) u tr .trace) .result .lines ≤ suc n + k
+          → goes c bytes n k (stepOn c bytes (lineSize * n) u tr) d .result .lines ≤ n + suc k
       go (On next) l = omega arith
       go (Off r) l = omega arith
 
 -- a line takes 16 bytes
-pub run-room : (bytes : List ℕ) (u : RunTables) (tr : List ℕ) → 16 * runOn bytes u tr .result .lines ≤ length tr
+pub run-room : (bytes : List ℕ) (u : RunTables) (tr : List ℕ) → lineSize * runOn bytes u tr .result .lines ≤ length tr
 unfolding runOn
 run-room bytes u tr = by-sheet (checked bytes)
   where
-    by-tables : (c : Counts) (v : Verdict) → 16 * judgedRun v c bytes u tr .result .lines ≤ length tr
-    by-tables c Fine = omega (arith, turns-room c bytes 0 (length tr / 16) u tr)
+    by-tables : (c : Counts) (v : Verdict) → lineSize * judgedRun v c bytes u tr .result .lines ≤ length tr
+    by-tables c Fine = omega (arith, turns-room c bytes 0 (length tr / lineSize) u tr)
     by-tables c (Judged q) = omega arith
 
-    by-sheet : (k : Checked) → 16 * checkedRun k bytes u tr .result .lines ≤ length tr
+    by-sheet : (k : Checked) → lineSize * checkedRun k bytes u tr .result .lines ≤ length tr
     by-sheet (Accepted h) = by-tables (h .counts) (runJudged (h .counts) (h .records) u (length tr))
     by-sheet (NotAccepted q) = omega arith

@@ -26,8 +26,9 @@ use Rattle.sheet.specs.declared.header.Checked.the-variants.{Accepted}
 use Rattle.sheet.specs.Sheet.{countsOf, recordsOf}
 use Rattle.sheet.specs.Accepted.{accepted, checked}
 use Rattle.sheet.specs.Ranges.{checked-yes}
-use Rattle.run_laws.specs.Run.{RunTables, afterTables, runJudged}
+use Rattle.run_laws.specs.Run.{RunTables, afterTables, runJudged, runWords}
 use Rattle.run_laws.specs.Standing.{Standing}
+use Rattle.machine.specs.Run.{traceLimit}
 
 -- ---- the code's tests, one after the other
 
@@ -45,20 +46,20 @@ module _ (c : Counts) (R : ℕ) (u : RunTables) (len : ℕ) (a : Bool) (ea : a �
       at : length (u .positions) ≡ c .processes + 1
       at = np ∙ ap (λ (k : ℕ). k + 1) ep
 
-      pub words-size : length (u .words) ≢ 192 → Judged Size ≡ runJudged c R u len
+      pub words-size : length (u .words) ≢ runWords → Judged Size ≡ runJudged c R u len
       unfolding runJudged
-      words-size n = rw (sym ea ∙ not-false a na, eq-eqb (length (u .positions)) (c .processes + 1) at, ne-eqb (length (u .words)) 192 n)
+      words-size n = rw (sym ea ∙ not-false a na, eq-eqb (length (u .positions)) (c .processes + 1) at, ne-eqb (length (u .words)) runWords n)
 
-      module _ (nw : length (u .words) ≡ 192) where
-        pub trace-size : 65536 < len → Judged Size ≡ runJudged c R u len
+      module _ (nw : length (u .words) ≡ runWords) where
+        pub trace-size : traceLimit < len → Judged Size ≡ runJudged c R u len
         unfolding runJudged
         trace-size n =
-            rw (sym ea ∙ not-false a na, eq-eqb (length (u .positions)) (c .processes + 1) at, eq-eqb (length (u .words)) 192 nw, lt-leb len 65536 n)
+            rw (sym ea ∙ not-false a na, eq-eqb (length (u .positions)) (c .processes + 1) at, eq-eqb (length (u .words)) runWords nw, lt-leb len traceLimit n)
 
-        module _ (nt : len ≤ 65536) where
+        module _ (nt : len ≤ traceLimit) where
           sizes : runJudged c R u len ≡ afterTables (judged c (u .model)) (positionsJudged c R (u .positions))
           unfolding runJudged
-          sizes = rw (sym ea ∙ not-false a na, eq-eqb (length (u .positions)) (c .processes + 1) at, eq-eqb (length (u .words)) 192 nw, le-leb len 65536 nt)
+          sizes = rw (sym ea ∙ not-false a na, eq-eqb (length (u .positions)) (c .processes + 1) at, eq-eqb (length (u .words)) runWords nw, le-leb len traceLimit nt)
 
           pub tables-not : (v : Verdict) (q : Refusal) → v ≡ judged c (u .model) → v ≡ Judged q → Judged q ≡ runJudged c R u len
           tables-not v q e f = sym (sizes ∙ ap (λ (w : Verdict). afterTables w (positionsJudged c R (u .positions))) (sym e ∙ f))
@@ -71,8 +72,8 @@ module _ (c : Counts) (R : ℕ) (u : RunTables) (len : ℕ) (a : Bool) (ea : a �
 pub record Passed (c : Counts) (R : ℕ) (u : RunTables) (len : ℕ) : Type 0 where
   pub tables : judged c (u .model) ≡ Fine
   pub positions : positionsJudged c R (u .positions) ≡ Fine
-  pub words : length (u .words) ≡ 192
-  pub short : len ≤ 65536
+  pub words : length (u .words) ≡ runWords
+  pub short : len ≤ traceLimit
 
 after-fine : (v w : Verdict) → afterTables v w ≡ Fine → (v ≡ Fine) × (w ≡ Fine)
 after-fine Fine w e = (refl, e)
@@ -81,10 +82,10 @@ after-fine (Judged r) w e = let y : false ≡ true = cc in clash y
 pub judged-fine : (c : Counts) (R : ℕ) (u : RunTables) (len : ℕ) → runJudged c R u len ≡ Fine → Passed c R u len
 unfolding runJudged
 judged-fine c R u len e =
-    test (lengthsFine c (u .model) && (eqb (length (u .positions)) (c .processes + 1) && (eqb (length (u .words)) 192 && leb len 65536)))
+    test (lengthsFine c (u .model) && (eqb (length (u .positions)) (c .processes + 1) && (eqb (length (u .words)) runWords && leb len traceLimit)))
     (λ t.
     let p = both (eqb (length (u .positions)) (c .processes + 1)) _ (both (lengthsFine c (u .model)) _ t .1) in
-    let q = both (eqb (length (u .words)) 192) (leb len 65536) (p .1) in
+    let q = both (eqb (length (u .words)) runWords) (leb len traceLimit) (p .1) in
     let f = after-fine (judged c (u .model)) (positionsJudged c R (u .positions)) (rw t at e) in
     record { tables = f .0; positions = f .1; words = eqb-true _ _ (q .0); short = leb-true _ _ (q .1) })
     (λ t. let z : Judged Size ≡ Fine = rw t at e in let y : false ≡ true = cc in clash y)
@@ -165,7 +166,7 @@ module _ (bytes : List ℕ) (c : Counts) (ok : accepted bytes ≡ true) (is : c 
 
 -- the code's way: the sheet accepted with this header, the run judged fine
 pub fine-standing : (bytes : List ℕ) (h : Header) (u : RunTables) (len : ℕ) → checked bytes ≡ Accepted h → runJudged (h .counts) (h .records) u len ≡ Fine
-    → Standing (h .counts) bytes u × (len ≤ 65536)
+    → Standing (h .counts) bytes u × (len ≤ traceLimit)
 fine-standing bytes h u len e f =
     let y = checked-yes bytes h e in
     let p : Passed (h .counts) (recordsOf bytes) u len = judged-fine (h .counts) (recordsOf bytes) u len (subst (λ (R : ℕ). runJudged (h .counts) R u len ≡ Fine) (ap (λ (k : Header). k .records) (y .1)) f) in

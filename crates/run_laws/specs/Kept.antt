@@ -28,6 +28,7 @@ use Rattle.sheet.specs.declared.header.Checked.the-variants.{Accepted, Refused 
 use Rattle.sheet.specs.Accepted.{checked}
 use Rattle.machine.specs.declared.End.the-variants.{Refused}
 use Rattle.machine.specs.Calls.{ListCall, onSet, hold, passivate, wait, cancel, activate, ifEmpty, finish, Call, onList, accum}
+use Rattle.machine.specs.Run.{lineSize}
 use Rattle.run_laws.specs.Fresh.{sizesFine, filledFor, filled}
 use Rattle.run_laws.specs.OnTables.{tablesAfter, Carried, carriedOut}
 use Rattle.run_laws.specs.Run.{RunTables, runOf, runJudged, callDue, Turned, On, Off, turnedOf, Stepped, moved, dueIn, lineIn, stepOn, endsNow, RanOn, stoppedOn, turnsOn, judgedRun, checkedRun, runOn}
@@ -98,12 +99,12 @@ module _ (c : Counts) (bytes : List ℕ) where
   turns-lines n (suc k) u tr =
       test (endsNow c (u .model .axis) (u .positions))
       (λ e. rw e (omega arith))
-      (λ e. rw e (go (stepOn c bytes (16 * n) u tr .turned)
-      (turns-lines (suc n) k (stepOn c bytes (16 * n) u tr .run) (stepOn c bytes (16 * n) u tr .trace))))
+      (λ e. rw e (go (stepOn c bytes (lineSize * n) u tr .turned)
+      (turns-lines (suc n) k (stepOn c bytes (lineSize * n) u tr .run) (stepOn c bytes (lineSize * n) u tr .trace))))
     where
-      go : (d : Turned) → suc n ≤ turnsOn c bytes (suc n) k (stepOn c bytes (16 * n) u tr .run)
-          (stepOn c bytes (16 * n) u tr .trace) .result .lines
-          → n ≤ goes n k (stepOn c bytes (16 * n) u tr) d .result .lines
+      go : (d : Turned) → suc n ≤ turnsOn c bytes (suc n) k (stepOn c bytes (lineSize * n) u tr .run)
+          (stepOn c bytes (lineSize * n) u tr .trace) .result .lines
+          → n ≤ goes n k (stepOn c bytes (lineSize * n) u tr) d .result .lines
       go (On next) l = omega arith
       go (Off r) l = omega arith
 
@@ -116,17 +117,17 @@ module _ (c : Counts) (bytes : List ℕ) where
   turns-kept (suc k) u tr r =
       test (endsNow c (u .model .axis) (u .positions))
       (λ e. rw e (λ a b. (refl, refl)))
-      (λ e. rw e (go (stepOn c bytes (16 * 0) u tr .turned) refl))
+      (λ e. rw e (go (stepOn c bytes (lineSize * 0) u tr .turned) refl))
     where
-      go : (d : Turned) → stepOn c bytes (16 * 0) u tr .turned ≡ d
-          → goes 0 k (stepOn c bytes (16 * 0) u tr) d .result .lines ≡ 0
-          → goes 0 k (stepOn c bytes (16 * 0) u tr) d .result .end ≡ Refused r
-          → (goes 0 k (stepOn c bytes (16 * 0) u tr) d .run ≡ u) × (goes 0 k (stepOn c bytes (16 * 0) u tr) d .trace ≡ tr)
+      go : (d : Turned) → stepOn c bytes (lineSize * 0) u tr .turned ≡ d
+          → goes 0 k (stepOn c bytes (lineSize * 0) u tr) d .result .lines ≡ 0
+          → goes 0 k (stepOn c bytes (lineSize * 0) u tr) d .result .end ≡ Refused r
+          → (goes 0 k (stepOn c bytes (lineSize * 0) u tr) d .run ≡ u) × (goes 0 k (stepOn c bytes (lineSize * 0) u tr) d .trace ≡ tr)
       go (On next) q a b = absurd (some a)
         where
-          some : turnsOn c bytes 1 k (stepOn c bytes (16 * 0) u tr .run) (stepOn c bytes (16 * 0) u tr .trace) .result .lines ≡ 0 → ⊥
-          some h = omega (arith, h, turns-lines 1 k (stepOn c bytes (16 * 0) u tr .run) (stepOn c bytes (16 * 0) u tr .trace))
-      go (Off s) q a b = step-kept c bytes (16 * 0) u tr s q
+          some : turnsOn c bytes 1 k (stepOn c bytes (lineSize * 0) u tr .run) (stepOn c bytes (lineSize * 0) u tr .trace) .result .lines ≡ 0 → ⊥
+          some h = omega (arith, h, turns-lines 1 k (stepOn c bytes (lineSize * 0) u tr .run) (stepOn c bytes (lineSize * 0) u tr .trace))
+      go (Off s) q a b = step-kept c bytes (lineSize * 0) u tr s q
 
 -- a run call that was refused and wrote no line
 pub run-kept : (bytes : List ℕ) (u : RunTables) (tr : List ℕ) (r : Refusal) → runOn bytes u tr .result .lines ≡ 0
@@ -137,7 +138,7 @@ run-kept bytes u tr r = by-sheet (checked bytes)
   where
     by-tables : (c : Counts) (v : Verdict) → judgedRun v c bytes u tr .result .lines ≡ 0 → judgedRun v c bytes u tr .result .end ≡ Refused r
         → (judgedRun v c bytes u tr .run ≡ u) × (judgedRun v c bytes u tr .trace ≡ tr)
-    by-tables c Fine a b = turns-kept c bytes (length tr / 16) u tr r a b
+    by-tables c Fine a b = turns-kept c bytes (length tr / lineSize) u tr r a b
     by-tables c (Judged q) a b = (refl, refl)
 
     by-sheet : (k : Checked) → checkedRun k bytes u tr .result .lines ≡ 0 → checkedRun k bytes u tr .result .end ≡ Refused r

@@ -11,9 +11,10 @@ use Rattle.model.specs.Counts.{Allowed, total}
 use Rattle.model_laws.specs.Tables.{Tables}
 use Rattle.model_laws.specs.Ready.{Ready}
 use Rattle.model_laws.specs.Now.{half, timeOf, firstOf}
-use Rattle.sheet.specs.Sheet.{recordFrom}
+use Rattle.sheet.specs.Sheet.{recordFrom, recordBytes}
 use Rattle.sheet.specs.Accepted.{isOperand}
 use Rattle.sheet.specs.Fields.{Ranged}
+use Rattle.run_laws.specs.Run.{runWords}
 
 -- to resolve an operand: counts within their limits, a sound table of links, and current at a place of the axis
 pub record Resolvable (c : Counts) (links : List ℕ) (f : ℕ) : Type 0 where
@@ -23,14 +24,14 @@ pub record Resolvable (c : Counts) (links : List ℕ) (f : ℕ) : Type 0 where
 
 -- to resolve v, which is x or y of the record whose bytes begin at i
 pub record Readable (c : Counts) (bytes : List ℕ) (i : ℕ) (links : List ℕ) (f v : ℕ) : Type 0 where
-  pub inside : i + 24 ≤ length bytes
+  pub inside : i + recordBytes ≤ length bytes
   pub operand : isOperand c v ≡ true
   pub resolvable : Resolvable c links f
 
 -- to make its call: judged tables, fields in their ranges, and current's place
 pub record Callable (c : Counts) (bytes : List ℕ) (i f : ℕ) (t : Tables) : Type 0 where
   pub ready : Ready c t
-  pub inside : i + 24 ≤ length bytes
+  pub inside : i + recordBytes ≤ length bytes
   pub records : ℕ
   pub ranged : Ranged (record { counts = c; records = records }) (recordFrom bytes i)
   pub place-is : f ≡ firstOf (half c) (t .axis)
@@ -39,4 +40,4 @@ pub record Callable (c : Counts) (bytes : List ℕ) (i f : ℕ) (t : Tables) : T
 pub record Performable (c : Counts) (bytes : List ℕ) (i f time : ℕ) (t : Tables) (words : List ℤ) : Type 0 where
   pub callable : Callable c bytes i f t
   pub time-is : time ≡ timeOf (half c) (t .axis) (t .times)
-  pub words-all : length words ≡ 192
+  pub words-all : length words ≡ runWords

@@ -16,6 +16,7 @@ use Rattle.simset_laws.specs.Plain.{linksAfter}
 use Rattle.simulation_laws.specs.Calls.{holdStep, passivateStep, cancelStep, timedStep, finishStep, waitStep, onSqs, onMarks, onSets}
 use Rattle.accum_laws.specs.Flat.{updatedIn}
 use Rattle.machine.specs.Calls.{ListCall, onSet, hold, passivate, wait, cancel, activate, ifEmpty, finish, Call, onList, accum}
+use Rattle.sheet.specs.Accepted.{operandBase}
 
 -- ---- reading
 
@@ -28,7 +29,7 @@ firstAt c links h = sets.sucOf (c .heads) h links
 
 -- "0 to N, or 65,536 for current, or 65,536 + h .. for the first member of head h (none if empty)"; f is current's place
 unfoldable pub operandWith : Counts → List ℕ → ℕ → ℕ → ℕ
-operandWith c links f v = if ltb v 65536 then v else if eqb v 65536 then linkageAt c f else firstAt c links (v - 65536)
+operandWith c links f v = if ltb v operandBase then v else if eqb v operandBase then linkageAt c f else firstAt c links (v - operandBase)
 
 abbrev pub operandAt : Counts → List ℕ → List ℕ → ℕ → ℕ
 operandAt c links axis v = operandWith c links (firstOf (half c) axis) v

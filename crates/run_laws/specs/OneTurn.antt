@@ -13,6 +13,7 @@ use Rattle.model.specs.declared.verdict.Verdict.the-variants.{Fine, Refused as 
 use Rattle.model_laws.specs.Now.{half, firstOf}
 use Rattle.sheet.specs.Sheet.{recordOffset}
 use Rattle.machine.specs.declared.End.the-variants.{Finished, Refused as Ended}
+use Rattle.machine.specs.Run.{lineSize}
 use Rattle.run_laws.specs.declared.Turn.{Turn}
 use Rattle.run_laws.specs.declared.Turn.the-variants.{Finished as AtEnd, Made, Refused as NotMade}
 use Rattle.run_laws.specs.Run.{RunTables, runOf, Turned, On, Off, Stepped, recordGot, stepOn, endsNow, TurnedOn, turnBy, turnOn, RanOn, stoppedOn}
@@ -78,12 +79,12 @@ no-end (On next) e = cc
 no-end (Off r) e = cc
 
 module _ (c : Counts) (bytes : List ℕ) (room n : ℕ) (whole : RanOn) (u₀ : RunTables) (tr₀ : List ℕ) (u : RunTables) (tr : List ℕ) (t : Turning c bytes room n whole u₀ tr₀ u tr)
-    (h : n < room) (o : TurnedOn) (eo : o ≡ turnOn c bytes (16 * n) u tr) where
+    (h : n < room) (o : TurnedOn) (eo : o ≡ turnOn c bytes (lineSize * n) u tr) where
   abbrev ended : Bool
   ended = endsNow c (u .model .axis) (u .positions)
 
   abbrev s : Stepped
-  s = stepOn c bytes (16 * n) u tr
+  s = stepOn c bytes (lineSize * n) u tr
 
   at-end : ended ≡ true → o ≡ record { run = u; trace = tr; turn = AtEnd }
   unfolding turnOn

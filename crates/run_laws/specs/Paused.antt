@@ -6,6 +6,7 @@ use mathlib.Core.List.{List}
 use lib.ListN.{length}
 use Rattle.model.specs.declared.Counts.{Counts}
 use Rattle.machine.specs.declared.End.the-variants.{Refused as Ended}
+use Rattle.machine.specs.Run.{lineSize}
 use Rattle.run_laws.specs.declared.Pause.{Pause}
 use Rattle.run_laws.specs.declared.Pause.the-variants.{Full, Apart, Refused as Stopped}
 use Rattle.run_laws.specs.declared.Stretch.{Stretch}
@@ -34,7 +35,7 @@ pub record Paused (c : Counts) (bytes : List ℕ) (n₀ : ℕ) (whole : RanOn) (
   pub stands : (isFull (s .pause) || isDue (s .pause)) ≡ true → Standing c bytes u′
   pub size : length tr′ ≡ length tr
   pub more : n₀ ≤ s .lines
-  pub few : s .lines ≤ length tr / 16
-  pub left : (k : ℕ) → s .lines + k ≡ length tr / 16 → leftBy c bytes (s .pause) (s .lines) k u′ tr′ ≡ whole
-  pub full : isFull (s .pause) ≡ true → length tr / 16 ≤ s .lines
-  pub due : isDue (s .pause) ≡ true → (s .lines < length tr / 16) × (apart (recordGot (c .processes) bytes (recordAtNow c u′)) ≡ true)
+  pub few : s .lines ≤ length tr / lineSize
+  pub left : (k : ℕ) → s .lines + k ≡ length tr / lineSize → leftBy c bytes (s .pause) (s .lines) k u′ tr′ ≡ whole
+  pub full : isFull (s .pause) ≡ true → length tr / lineSize ≤ s .lines
+  pub due : isDue (s .pause) ≡ true → (s .lines < length tr / lineSize) × (apart (recordGot (c .processes) bytes (recordAtNow c u′)) ≡ true)

@@ -13,6 +13,7 @@ use Rattle.model_laws.specs.Now.{half}
 use Rattle.simulation_laws.specs.Promise.{Noticed, Judged, Takeable, ready-judged, ready-takeable}
 use Rattle.sheet.specs.declared.records.Record.{Record}
 use Rattle.sheet.specs.Sheet.{recordOffset, recordFrom}
+use Rattle.sheet.specs.Operations.{lastOperation}
 use Rattle.run_laws.specs.Run.{recordGot}
 use Rattle.run_laws.specs.Performed.{Performed, performed}
 use Rattle.run_laws.specs.Tried.{tried}
@@ -43,7 +44,7 @@ module _ (c : Counts) (bytes : List ℕ) (i f : ℕ) (t : Tables) (p : Callable 
     pub some : 1 ≤ op
     some = omega (arith, p .ranged .operation-some)
 
-    pub most : op ≤ 13
+    pub most : op ≤ lastOperation
     most = omega (arith, p .ranged .operation-in)
 
 module _ (c : Counts) (bytes : List ℕ) (i f time : ℕ) (t : Tables) (words : List ℤ) (p : Performable c bytes i f time t words) where

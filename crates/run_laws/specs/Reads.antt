@@ -16,7 +16,7 @@ use Rattle.model_laws.specs.Now.{half, firstOf}
 use Rattle.simset_laws.specs.Procedures.{linkOr}
 use Rattle.sheet.specs.declared.records.Record.{Record}
 use Rattle.sheet.specs.Sheet.{recordOffset, recordFrom, recordWith}
-use Rattle.sheet.specs.Accepted.{isOperand}
+use Rattle.sheet.specs.Accepted.{isOperand, operandBase}
 use Rattle.sheet.specs.Fields.{operand-kinds}
 use Rattle.run_laws.specs.OnTables.{operandWith}
 use Rattle.run_laws.specs.Run.{endRecord, recordGot, endsNow}
@@ -51,35 +51,35 @@ module _ (c : Counts) (axis positions : List ℕ) (f : ℕ) (is : f ≡ firstOf 
 module _ (c : Counts) (links : List ℕ) (f v : ℕ) (z : Resolvable c links f) where
   pub operand-low : v ≤ total c → v ≡ operandWith c links f v
   unfolding operandWith
-  operand-low l = rw (lt-ltb v 65536 (omega (arith, z .allowed .heads-in, z .allowed .processes-in, z .allowed .plains-in)))
+  operand-low l = rw (lt-ltb v operandBase (omega (arith, z .allowed .heads-in, z .allowed .processes-in, z .allowed .plains-in)))
 
-  pub operand-current : v ≡ 65536 → c .heads + f ≡ operandWith c links f v
+  pub operand-current : v ≡ operandBase → c .heads + f ≡ operandWith c links f v
   unfolding operandWith
-  operand-current e = rw (le-ltb v 65536 (omega arith), eq-eqb v 65536 e)
+  operand-current e = rw (le-ltb v operandBase (omega arith), eq-eqb v operandBase e)
 
-  module _ (o : isOperand c v ≡ true) (l : total c < v) (n : v ≢ 65536) where
-    pub above : (65536 ≤ v) × (v - 65536 ≤ c .heads)
+  module _ (o : isOperand c v ≡ true) (l : total c < v) (n : v ≢ operandBase) where
+    pub above : (operandBase ≤ v) × (v - operandBase ≤ c .heads)
     above = ⊎-elim (λ k. absurd (no k)) (⊎-elim (λ e. absurd (n e)) (λ p. (omega (arith, p .0), omega (arith, p .1)))) (operand-kinds c v o)
       where
         no : v ≤ total c → ⊥
         no k = omega arith
 
-    module _ (h : ℕ) (e : h ≡ v - 65536) where
+    module _ (h : ℕ) (e : h ≡ v - operandBase) where
       pub head-within : h < length links
       head-within = omega (arith, above .1, z .sound .two)
 
       pub operand-first : (r : ℕ) → r ≡ linkOr (c .heads) (getD links h 0) → r ≡ operandWith c links f v
       unfolding operandWith
-      operand-first r is = rw (le-ltb v 65536 (above .0), ne-eqb v 65536 n) (is ∙ ap (λ (j : ℕ). linkOr (c .heads) (getD links j 0)) e)
+      operand-first r is = rw (le-ltb v operandBase (above .0), ne-eqb v operandBase n) (is ∙ ap (λ (j : ℕ). linkOr (c .heads) (getD links j 0)) e)
 
   -- an operand stands for a head only where it is its number
   pub no-head : isOperand c v ≡ true → 0 < f → isHead c v ≡ false → isHead c (operandWith c links f v) ≡ false
   unfolding linkOr
   no-head o some e =
       below (total c) v
-      (λ l. decide v 65536
+      (λ l. decide v operandBase
       (λ z. ap (isHead c) (sym (operand-current z)) ∙ above-heads (c .heads + f) (omega arith))
-      (λ n. ap (isHead c) (sym (operand-first o l n (v - 65536) refl (linkOr (c .heads) (getD links (v - 65536) 0)) refl)) ∙ first (getD links (v - 65536) 0)))
+      (λ n. ap (isHead c) (sym (operand-first o l n (v - operandBase) refl (linkOr (c .heads) (getD links (v - operandBase) 0)) refl)) ∙ first (getD links (v - operandBase) 0)))
       (λ l. ap (isHead c) (sym (operand-low l)) ∙ e)
     where
       above-heads : (x : ℕ) → c .heads < x → isHead c x ≡ false

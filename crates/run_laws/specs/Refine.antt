@@ -18,7 +18,7 @@ use Rattle.simset_laws.specs.Procedures.{emptyOf}
 use Rattle.simset_laws.specs.Sets.{noLinks}
 use Rattle.sheet.specs.declared.records.Record.{Record}
 use Rattle.sheet.specs.Sheet.{countsOf, recordsOf, recordWith, Sheet, sheetOf}
-use Rattle.sheet.specs.Accepted.{isOperand, accepted}
+use Rattle.sheet.specs.Accepted.{isOperand, accepted, operandBase}
 use Rattle.sheet.specs.Fields.{Ranged}
 use Rattle.sheet.specs.Ranges.{record-listed, few-records}
 use Rattle.trace.specs.Lines.{lineBytes}
@@ -107,7 +107,7 @@ module _ (bytes : List ℕ) (ok : accepted bytes ≡ true) (m : Machine) (u : Ru
     ranged = its-range c bytes u stood r most n
 
     same-operand : (v : ℕ) → (isOperand c v ≡ true → operandAt c (u .model .links) (u .model .axis) v ≡ operandOf l v)
-        × (v < 65536 → operandAt c (u .model .links) (u .model .axis) v ≡ operandOf l v)
+        × (v < operandBase → operandAt c (u .model .links) (u .model .axis) v ≡ operandOf l v)
     same-operand v = (
       λ o. operand-at c l (u .model) fit (g .model) v o,
       λ b. let p = operand-plain c l (u .model) fit (g .model) v b in p .0 ∙ sym (p .1),
@@ -119,7 +119,7 @@ module _ (bytes : List ℕ) (ok : accepted bytes ≡ true) (m : Machine) (u : Ru
         (λ e. same-operand (q .x) .1 (small (q .x) (ranged .x-accumulator e .1)))
         (λ d. same-operand (q .x) .0 (ranged .x-operand d))
       where
-        small : (v : ℕ) → v ≤ 64 → v < 65536
+        small : (v : ℕ) → v ≤ 64 → v < operandBase
         small v b = omega arith
 
     y-is : operandAt c (u .model .links) (u .model .axis) (q .y) ≡ operandOf l (q .y)
@@ -128,7 +128,7 @@ module _ (bytes : List ℕ) (ok : accepted bytes ≡ true) (m : Machine) (u : Ru
         (λ e. same-operand (q .y) .1 (small (q .y) (recordsOf bytes) (ranged .y-record e) (few-records bytes ok)))
         (λ d. same-operand (q .y) .0 (ranged .y-operand d))
       where
-        small : (v R : ℕ) → v ≤ R → R ≤ 2000 → v < 65536
+        small : (v R : ℕ) → v ≤ R → R ≤ 2000 → v < operandBase
         small v R a b = omega arith
 
     pub some-call : callDue (resolved c (u .model .links) (firstOf (half c) (u .model .axis)) q) ≡ callOf q (operandOf l (q .x)) (operandOf l (q .y))

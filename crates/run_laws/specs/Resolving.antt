@@ -21,7 +21,7 @@ use Rattle.simset_laws.specs.Sets.{noLinks}
 use Rattle.simset_laws.specs.Laws.{set-head}
 use Rattle.simset_laws.specs.QueryLaws.{or-link, or-none, empty-says}
 use Rattle.simset_laws.specs.Meaning.{head-of}
-use Rattle.sheet.specs.Accepted.{isOperand}
+use Rattle.sheet.specs.Accepted.{isOperand, operandBase}
 use Rattle.sheet.specs.Fields.{operand-high}
 use Rattle.machine.specs.Steps.{firstIn, operandOf}
 use Rattle.run_laws.specs.OnTables.{currentAt, firstAt, operandWith, operandAt}
@@ -45,21 +45,21 @@ module _ (c : Counts) (l : Lists) (t : Tables) (w : Sized c t) (s : Spells c l t
   first-at h a b = first-of (total c + 1) (c .heads) (l .sets) (t .links) (s .links) h (set-head (total c + 1) (c .heads) h a b (omega arith))
 
   -- a number below 65,536 stands for itself
-  pub operand-plain : (v : ℕ) → v < 65536 → (operandAt c (t .links) (t .axis) v ≡ v) × (operandOf l v ≡ v)
+  pub operand-plain : (v : ℕ) → v < operandBase → (operandAt c (t .links) (t .axis) v ≡ v) × (operandOf l v ≡ v)
   unfolding operandWith operandOf
-  operand-plain v h = rw (lt-ltb v 65536 h) (refl, refl)
+  operand-plain v h = rw (lt-ltb v operandBase h) (refl, refl)
 
   pub operand-at : (v : ℕ) → isOperand c v ≡ true → operandAt c (t .links) (t .axis) v ≡ operandOf l v
   unfolding operandWith operandOf
   operand-at v o =
-      test (ltb v 65536)
+      test (ltb v operandBase)
       (λ e. rw e)
-      (λ e. test (eqb v 65536)
+      (λ e. test (eqb v operandBase)
       (λ q. rw (e, q) current-at)
-      (λ q. let h = operand-high c (w .allowed) v o (above v (ltb-false v 65536 e) (eqb-false v 65536 q)) in
-      rw (e, q) (first-at (v - 65536) (h .0) (h .1))))
+      (λ q. let h = operand-high c (w .allowed) v o (above v (ltb-false v operandBase e) (eqb-false v operandBase q)) in
+      rw (e, q) (first-at (v - operandBase) (h .0) (h .1))))
     where
-      above : (v : ℕ) → 65536 ≤ v → (v ≡ 65536 → ⊥) → 65536 < v
+      above : (v : ℕ) → operandBase ≤ v → (v ≡ operandBase → ⊥) → operandBase < v
       above v a b = omega arith
 
   -- whether head x is empty

@@ -30,6 +30,7 @@ use Rattle.machine.specs.declared.End.{End}
 use Rattle.machine.specs.declared.End.the-variants.{Finished, Full, Refused}
 use Rattle.machine.specs.Calls.{Call, onList, finish}
 use Rattle.machine.specs.Steps.{callOf, nextOf}
+use Rattle.machine.specs.Run.{lineSize, traceLimit}
 use Rattle.run_laws.specs.OnTables.{operandWith, Carried, carriedOut}
 use Rattle.run_laws.specs.declared.Ran.{Ran}
 use Rattle.run_laws.specs.declared.Turn.{Turn}
@@ -40,6 +41,10 @@ pub record RunTables : Type 0 where
   pub model : Tables
   pub positions : List ℕ
   pub words : List ℤ
+
+-- "64 accumulators", each of three words
+abbrev pub runWords : ℕ
+runWords = 192
 
 -- by the model's tables, the positions and the words
 abbrev pub runOf : Tables → List ℕ → List ℤ → RunTables
@@ -59,7 +64,7 @@ afterTables (Judged r) v = Judged r
 -- "Order: 8, 1, 2": a table of another length and a trace that is too long come before tables or positions that are not as they must be
 unfoldable pub runJudged : Counts → ℕ → RunTables → ℕ → Verdict
 runJudged c R u len =
-    if lengthsFine c (u .model) && (eqb (length (u .positions)) (c .processes + 1) && (eqb (length (u .words)) 192 && leb len 65536))
+    if lengthsFine c (u .model) && (eqb (length (u .positions)) (c .processes + 1) && (eqb (length (u .words)) runWords && leb len traceLimit))
     then afterTables (judged c (u .model)) (positionsJudged c R (u .positions))
     else Judged Size
 
@@ -168,7 +173,7 @@ stoppedOn n e u tr = record { run = u; trace = tr; result = record { lines = n; 
 unfoldable pub turnsOn : Counts → List ℕ → ℕ → ℕ → RunTables → List ℕ → RanOn
 turnsOn c bytes n zero u tr = if endsNow c (u .model .axis) (u .positions) then stoppedOn n Finished u tr else stoppedOn n Full u tr
 turnsOn c bytes n (suc k) u tr =
-    let s = stepOn c bytes (16 * n) u tr in
+    let s = stepOn c bytes (lineSize * n) u tr in
     if endsNow c (u .model .axis) (u .positions) then stoppedOn n Finished u tr
     else elim (s .turned) [ On next ↦ turnsOn c bytes (suc n) k (s .run) (s .trace) | Off r ↦ stoppedOn n (Refused r) (s .run) (s .trace) ]
 
@@ -176,7 +181,7 @@ turnsOn c bytes n (suc k) u tr =
 
 -- 8, then 1 and 2, then turns; a line takes 16 bytes
 abbrev pub judgedRun : Verdict → Counts → List ℕ → RunTables → List ℕ → RanOn
-judgedRun Fine c bytes u tr = turnsOn c bytes 0 (length tr / 16) u tr
+judgedRun Fine c bytes u tr = turnsOn c bytes 0 (length tr / lineSize) u tr
 judgedRun (Judged r) c bytes u tr = stoppedOn 0 (Refused r) u tr
 
 abbrev pub checkedRun : Checked → List ℕ → RunTables → List ℕ → RanOn

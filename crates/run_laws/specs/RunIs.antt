@@ -12,6 +12,7 @@ use Rattle.sheet.specs.declared.header.Checked.the-variants.{Accepted, Refused 
 use Rattle.sheet.specs.Accepted.{checked}
 use Rattle.run_laws.specs.declared.Ran.{Ran}
 use Rattle.run_laws.specs.Run.{RunTables, runJudged, RanOn, refusedRan, turnsOn, judgedRun, checkedRun, runOn}
+use Rattle.machine.specs.Run.{lineSize}
 
 module _ (bytes : List ℕ) (u : RunTables) (tr : List ℕ) where
   module _ (h : Header) (v : Verdict) (ev : v ≡ runJudged (h .counts) (h .records) u (length tr)) where
@@ -21,7 +22,7 @@ module _ (bytes : List ℕ) (u : RunTables) (tr : List ℕ) where
         ap (λ (x : Ran). record { run = u; trace = tr; result = x }) f
         ∙ sym (ap (λ (w : Verdict). judgedRun w (h .counts) bytes u tr) (sym ev ∙ e))
 
-    pub run-turns : (o : RanOn) → v ≡ Fine → o ≡ turnsOn (h .counts) bytes 0 (length tr / 16) u tr → o ≡ checkedRun (Accepted h) bytes u tr
+    pub run-turns : (o : RanOn) → v ≡ Fine → o ≡ turnsOn (h .counts) bytes 0 (length tr / lineSize) u tr → o ≡ checkedRun (Accepted h) bytes u tr
     run-turns o e f = f ∙ sym (ap (λ (w : Verdict). judgedRun w (h .counts) bytes u tr) (sym ev ∙ e))
 
   module _ (k : Checked) (ek : k ≡ checked bytes) where

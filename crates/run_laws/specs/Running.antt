@@ -12,6 +12,7 @@ use Rattle.model.specs.declared.Refusal.{Refusal}
 use Rattle.model_laws.specs.Now.{half, timeOf, firstOf}
 use Rattle.sheet.specs.Sheet.{recordOffset}
 use Rattle.machine.specs.declared.End.the-variants.{Refused}
+use Rattle.machine.specs.Run.{lineSize}
 use Rattle.run_laws.specs.declared.Effect.the-variants.{Refused as NotDone}
 use Rattle.run_laws.specs.Run.{RunTables, runOf, On, Off, Stepped, recordGot, recordAtNow, stepOn, endsNow, RanOn, stoppedOn}
 use Rattle.run_laws.specs.Performed.{Performed, performed, turnedBy}
@@ -65,18 +66,18 @@ module _ (c : Counts) (bytes : List ℕ) (room n : ℕ) (whole : RanOn) (u₀ : 
     turned-down k ek x ex =
         step-refused c bytes room n whole u₀ tr₀ u tr t h e
         (record { run = runOf (p .tables) (u .positions) (p .words); trace = tr; turned = Off x })
-        (step-off c bytes (16 * n) u tr f (at .place-is) r (at .record-is) time (at .time-is) p ep x ex) k ek x refl
+        (step-off c bytes (lineSize * n) u tr f (at .place-is) r (at .record-is) time (at .time-is) p ep x ex) k ek x refl
 
     module _ (next : ℕ) (v : turnedBy (p .effect) (recordGot (c .processes) bytes r .next) ≡ On next)
-        (ps tr′ : List ℕ) (g : Went c f time r (16 * n) next (u .positions) tr ps tr′) where
+        (ps tr′ : List ℕ) (g : Went c f time r (lineSize * n) next (u .positions) tr ps tr′) where
       abbrev u′ : RunTables
       u′ = runOf (p .tables) ps (p .words)
 
       abbrev o : Stepped
       o = record { run = u′; trace = tr′; turned = On next }
 
-      by-step : o ≡ stepOn c bytes (16 * n) u tr
-      by-step = step-on c bytes (16 * n) u tr f (at .place-is) r (at .record-is) time (at .time-is) p ep next v ps tr′ g
+      by-step : o ≡ stepOn c bytes (lineSize * n) u tr
+      by-step = step-on c bytes (lineSize * n) u tr f (at .place-is) r (at .record-is) time (at .time-is) p ep next v ps tr′ g
 
       pub goes-on : length tr′ ≡ length tr → Turning c bytes room (n + 1) whole u₀ tr₀ u′ tr′
       goes-on z = turning-on c bytes room n whole u₀ tr₀ u tr t h e o by-step next refl z
@@ -88,7 +89,7 @@ module _ (c : Counts) (bytes : List ℕ) (room n : ℕ) (whole : RanOn) (u₀ : 
       -- and stays current
       pub stays-here : stayed (p .effect) ≡ true → Here c u′ f time next
       stays-here s =
-          let k = step-stays c bytes (16 * n) u tr f (at .place-is) r (at .record-is) time (at .time-is) p ep s in
+          let k = step-stays c bytes (lineSize * n) u tr f (at .place-is) r (at .record-is) time (at .time-is) p ep s in
           let now : f ≡ firstOf (half c) (p .tables .axis) = at .place-is ∙ ap (firstOf (half c)) (sym (k .0)) in
           record {
             place-is = now;

@@ -14,12 +14,12 @@ use Rattle.model_laws.specs.Once.{spelled-sized}
 use Rattle.model_laws.specs.Now.{half, timeOf, firstOf}
 use Rattle.simulation_laws.specs.Promise.{Judged, ready-judged}
 use Rattle.accum_laws.specs.Triples.{flat, flat-length}
-use Rattle.sheet.specs.Sheet.{countsOf, recordsOf, recordOffset, recordWith}
+use Rattle.sheet.specs.Sheet.{countsOf, recordsOf, recordOffset, recordWith, recordBytes}
 use Rattle.sheet.specs.Accepted.{accepted}
 use Rattle.sheet.specs.Fields.{Ranged}
 use Rattle.sheet.specs.Ranges.{allowed-counts, record-inside, record-in}
 use Rattle.machine.specs.Machine.{Machine}
-use Rattle.run_laws.specs.Run.{RunTables, recordAtNow}
+use Rattle.run_laws.specs.Run.{RunTables, recordAtNow, runWords}
 use Rattle.run_laws.specs.Needs.{Callable, Performable}
 
 -- these tables are the machine's: its lists spelled, "place 0 zero" and its positions, its triples' words
@@ -54,7 +54,7 @@ module _ (c : Counts) (bytes : List ℕ) (u : RunTables) (s : Standing c bytes u
   pub positions-length : length (u .positions) ≡ c .processes + 1
   positions-length = ap length (s .stands .positions) ∙ omega (arith, s .stands .positions-all)
 
-  pub words-length : length (u .words) ≡ 192
+  pub words-length : length (u .words) ≡ runWords
   words-length = ap length (s .stands .words) ∙ flat-length (s .machine .triples) ∙ omega (arith, s .stands .triples-all)
 
   -- the record that current is at
@@ -77,8 +77,8 @@ module _ (c : Counts) (bytes : List ℕ) (u : RunTables) (s : Standing c bytes u
         subst (λ (k : Counts). Ranged (record { counts = k; records = recordsOf bytes }) (recordWith (k .processes) bytes r)) (sym (s .counts))
         (record-in bytes (s .ok) r (some n) most)
 
-    pub inside : r ≢ 0 → recordOffset (c .processes) r + 24 ≤ length bytes
-    inside n = subst (λ (k : Counts). recordOffset (k .processes) r + 24 ≤ length bytes) (sym (s .counts)) (record-inside bytes (s .ok) r (some n) most)
+    pub inside : r ≢ 0 → recordOffset (c .processes) r + recordBytes ≤ length bytes
+    inside n = subst (λ (k : Counts). recordOffset (k .processes) r + recordBytes ≤ length bytes) (sym (s .counts)) (record-inside bytes (s .ok) r (some n) most)
 
   -- ---- at current's place
 
@@ -101,7 +101,7 @@ module _ (c : Counts) (bytes : List ℕ) (u : RunTables) (s : Standing c bytes u
     -- ---- and with r, the record that it is at
 
     module _ (r : ℕ) (at : r ≡ recordAtNow c u) where
-      pub its-record : r ≢ 0 → recordOffset (c .processes) r + 24 ≤ length bytes
+      pub its-record : r ≢ 0 → recordOffset (c .processes) r + recordBytes ≤ length bytes
       its-record = inside r (subst (λ (n : ℕ). n ≤ recordsOf bytes) (sym at) now-in)
 
       pub its-call : r ≢ 0 → Callable c bytes (recordOffset (c .processes) r) f (u .model)

@@ -13,6 +13,7 @@ use Rattle.sheet.specs.Sheet.{countsOf, sheetOf}
 use Rattle.sheet.specs.Accepted.{checked}
 use Rattle.sheet.specs.Ranges.{checked-yes}
 use Rattle.machine.specs.Machine.{fresh}
+use Rattle.machine.specs.Run.{lineSize, traceLimit}
 use Rattle.run_laws.specs.Run.{RunTables, RanOn, turnsOn}
 use Rattle.run_laws.specs.Standing.{Standing}
 use Rattle.run_laws.specs.Fresh.{freshRun, Filled, sizesFine, filledFor, fresh-stands}
@@ -20,10 +21,10 @@ use Rattle.run_laws.specs.Fresh.{freshRun, Filled, sizesFine, filledFor,
 pub record Startable (h : Header) (bytes : List ℕ) (u : RunTables) (tr : List ℕ) : Type 0 where
   pub ok : checked bytes ≡ Accepted h
   pub sizes : sizesFine (h .counts) u ≡ true
-  pub short : length tr ≤ 65536
+  pub short : length tr ≤ traceLimit
 
 unfoldable pub startedOn : Counts → List ℕ → List ℕ → RanOn
-startedOn c bytes tr = turnsOn c bytes 0 (length tr / 16) (freshRun c bytes) tr
+startedOn c bytes tr = turnsOn c bytes 0 (length tr / lineSize) (freshRun c bytes) tr
 
 module _ (h : Header) (bytes : List ℕ) (u : RunTables) (tr : List ℕ) (s : Startable h bytes u tr) (v : RunTables) (a : Verdict)
     (e : record { run = v; answer = a } ≡ filledFor (Accepted h) bytes u) where
@@ -42,6 +43,6 @@ module _ (h : Header) (bytes : List ℕ) (u : RunTables) (tr : List ℕ) (s : St
   pub filled-standing : Standing (h .counts) bytes v
   filled-standing = subst (Standing (h .counts) bytes) (sym is-fresh) fresh-standing
 
-  pub started-is : (o : RanOn) → o ≡ turnsOn (h .counts) bytes 0 (length tr / 16) v tr → o ≡ startedOn (h .counts) bytes tr
+  pub started-is : (o : RanOn) → o ≡ turnsOn (h .counts) bytes 0 (length tr / lineSize) v tr → o ≡ startedOn (h .counts) bytes tr
   unfolding startedOn
-  started-is o f = f ∙ ap (λ (w : RunTables). turnsOn (h .counts) bytes 0 (length tr / 16) w tr) is-fresh
+  started-is o f = f ∙ ap (λ (w : RunTables). turnsOn (h .counts) bytes 0 (length tr / lineSize) w tr) is-fresh

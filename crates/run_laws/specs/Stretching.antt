@@ -20,6 +20,7 @@ use Rattle.sheet.specs.declared.records.Record.{Record}
 use Rattle.sheet.specs.Sheet.{recordOffset}
 use Rattle.trace.specs.Lines.{put, lineBytes}
 use Rattle.machine.specs.declared.End.the-variants.{Refused as Ended}
+use Rattle.machine.specs.Run.{lineSize, traceLimit}
 use Rattle.run_laws.specs.declared.Effect.the-variants.{Refused}
 use Rattle.run_laws.specs.declared.Pause.the-variants.{Full, Apart, Refused as Stopped}
 use Rattle.run_laws.specs.Run.{RunTables, runOf, On, recordGot, endsNow, RanOn, stoppedOn, turnsOn}
@@ -34,22 +35,22 @@ use Rattle.run_laws.specs.Turning.{Turning, turning-start, line-fits, Sa
 use Rattle.run_laws.specs.Running.{Here, positioned, as-positioned, here-positioned, callable, ends, turned-down, goes-on, moved-on, stays-here}
 
 pub record Stretching (c : Counts) (bytes : List ℕ) (n₀ : ℕ) (whole : RanOn) (u₀ : RunTables) (tr₀ : List ℕ) (end at f time r : ℕ) (u : RunTables) (tr : List ℕ) : Type 0 where
-  pub turning : Turning c bytes (length tr₀ / 16) (at / 16) whole u₀ tr₀ (positioned u f r) tr
+  pub turning : Turning c bytes (length tr₀ / lineSize) (at / lineSize) whole u₀ tr₀ (positioned u f r) tr
   pub here : Here c (positioned u f r) f time r
-  pub begun : 16 * n₀ ≤ at
-  pub even : at ≡ 16 * (at / 16)
-  pub end-is : end ≡ 16 * (length tr₀ / 16)
+  pub begun : lineSize * n₀ ≤ at
+  pub even : at ≡ lineSize * (at / lineSize)
+  pub end-is : end ≡ lineSize * (length tr₀ / lineSize)
 
-pub stretching-start : (c : Counts) (bytes : List ℕ) (n : ℕ) (u : RunTables) (tr : List ℕ) (f time r : ℕ) → Standing c bytes u → length tr ≤ 65536 → n ≤ length tr / 16
+pub stretching-start : (c : Counts) (bytes : List ℕ) (n : ℕ) (u : RunTables) (tr : List ℕ) (f time r : ℕ) → Standing c bytes u → length tr ≤ traceLimit → n ≤ length tr / lineSize
     → f ≡ firstOf (half c) (u .model .axis) → time ≡ getD (u .model .times) f 0 → r ≡ getD (u .positions) f 0
-    → Stretching c bytes n (turnsOn c bytes n (length tr / 16 - n) u tr) u tr (16 * (length tr / 16)) (16 * n) f time r u tr
+    → Stretching c bytes n (turnsOn c bytes n (length tr / lineSize - n) u tr) u tr (lineSize * (length tr / lineSize)) (lineSize * n) f time r u tr
 stretching-start c bytes n u tr f time r s l h ef et er =
-    let z : 16 * n / 16 ≡ n = omega arith in
+    let z : lineSize * n / lineSize ≡ n = omega arith in
     record {
       turning =
-          subst (λ (v : RunTables). Turning c bytes (length tr / 16) (16 * n / 16) (turnsOn c bytes n (length tr / 16 - n) u tr) u tr v tr) (as-positioned u f r er)
-          (subst (λ (j : ℕ). Turning c bytes (length tr / 16) j (turnsOn c bytes n (length tr / 16 - n) u tr) u tr u tr) (sym z)
-          (turning-start c bytes n (length tr / 16 - n) u tr s l (omega arith)));
+          subst (λ (v : RunTables). Turning c bytes (length tr / lineSize) (lineSize * n / lineSize) (turnsOn c bytes n (length tr / lineSize - n) u tr) u tr v tr) (as-positioned u f r er)
+          (subst (λ (j : ℕ). Turning c bytes (length tr / lineSize) j (turnsOn c bytes n (length tr / lineSize - n) u tr) u tr u tr) (sym z)
+          (turning-start c bytes n (length tr / lineSize - n) u tr s l (omega arith)));
       here = here-positioned c u f time r ef et er;
       begun = omega arith;
       even = omega arith;
@@ -59,10 +60,10 @@ stretching-start c bytes n u tr f time r s l h ef et er =
 module _ (c : Counts) (bytes : List ℕ) (n₀ : ℕ) (whole : RanOn) (u₀ : RunTables) (tr₀ : List ℕ) (end at f time r : ℕ) (u : RunTables) (tr : List ℕ)
     (s : Stretching c bytes n₀ whole u₀ tr₀ end at f time r u tr) where
   abbrev room : ℕ
-  room = length tr₀ / 16
+  room = length tr₀ / lineSize
 
   pub its-call : r ≢ 0 → Performable c bytes (recordOffset (c .processes) r) f time (u .model) (u .words)
-  its-call = callable c bytes room (at / 16) whole u₀ tr₀ (positioned u f r) tr (s .turning) f time r (s .here)
+  its-call = callable c bytes room (at / lineSize) whole u₀ tr₀ (positioned u f r) tr (s .turning) f time r (s .here)
 
   pub in-table : f < length (u .positions)
   in-table =
@@ -88,14 +89,14 @@ module _ (c : Counts) (bytes : List ℕ) (n₀ : ℕ) (whole : RanOn) (u₀ : Ru
   pub its-number : c .heads + f < 4294967296
   its-number = number-in c bytes (positioned u f r) (s .turning .stands) f (s .here .place-is)
 
-  pub most-bytes : at ≤ 65536
+  pub most-bytes : at ≤ traceLimit
   most-bytes = omega (arith, s .even, s .turning .few, s .turning .short)
 
-  room-left : at < end → at / 16 < room
+  room-left : at < end → at / lineSize < room
   room-left l = omega (arith, s .even, s .end-is)
 
-  pub its-line : at < end → at + 16 ≤ length tr
-  its-line l = omega (arith, s .even, line-fits c bytes room (at / 16) whole u₀ tr₀ (positioned u f r) tr (s .turning) (room-left l))
+  pub its-line : at < end → at + lineSize ≤ length tr
+  its-line l = omega (arith, s .even, line-fits c bytes room (at / lineSize) whole u₀ tr₀ (positioned u f r) tr (s .turning) (room-left l))
 
   -- ---- a call that was made here
 
@@ -106,7 +107,7 @@ module _ (c : Counts) (bytes : List ℕ) (n₀ : ℕ) (whole : RanOn) (u₀ : Ru
     -- main at position 0 is met apart
     unfinished : endsNow c (u .model .axis) (set (u .positions) f r) ≡ false
     unfinished =
-        sym (ends c bytes room (at / 16) whole u₀ tr₀ (positioned u f r) tr (s .turning) f time r (s .here) (eqb r 0 && eqb f 1) refl) ∙ rw (ne-eqb r 0 some) refl
+        sym (ends c bytes room (at / lineSize) whole u₀ tr₀ (positioned u f r) tr (s .turning) f time r (s .here) (eqb r 0 && eqb f 1) refl) ∙ rw (ne-eqb r 0 some) refl
       where
         some : r ≢ 0
         some e =
@@ -114,7 +115,7 @@ module _ (c : Counts) (bytes : List ℕ) (n₀ : ℕ) (whole : RanOn) (u₀ : Ru
             let y : true ≡ false = sym z ∙ not-apart c (recordGot (c .processes) bytes r) f (u .model) (u .words) p is m in
             clash (sym y)
 
-    pub stopped : (x : Refusal) → p .effect ≡ Refused x → (n : ℕ) → n ≡ at / 16 → (ps : List ℕ) → ps ≡ set (u .positions) f r
+    pub stopped : (x : Refusal) → p .effect ≡ Refused x → (n : ℕ) → n ≡ at / lineSize → (ps : List ℕ) → ps ≡ set (u .positions) f r
         → Paused c bytes n₀ whole tr₀ (runOf (p .tables) ps (p .words)) tr (record { lines = n; pause = Stopped x })
     stopped x e n en ps eps =
         record {
@@ -124,7 +125,7 @@ module _ (c : Counts) (bytes : List ℕ) (n₀ : ℕ) (whole : RanOn) (u₀ : Ru
           few = omega (arith, s .turning .few);
           left = λ k q.
               ap (λ (l : List ℕ). stoppedOn n (Ended x) (runOf (p .tables) l (p .words)) tr) eps
-              ∙ turned-down c bytes room (at / 16) whole u₀ tr₀ (positioned u f r) tr (s .turning) f time r (s .here) (room-left h) unfinished p made n en x e;
+              ∙ turned-down c bytes room (at / lineSize) whole u₀ tr₀ (positioned u f r) tr (s .turning) f time r (s .here) (room-left h) unfinished p made n en x e;
           full = λ z. clash z;
           due = λ z. clash z;
         }
@@ -133,35 +134,35 @@ module _ (c : Counts) (bytes : List ℕ) (n₀ : ℕ) (whole : RanOn) (u₀ : Ru
       abbrev after : List ℕ → RunTables
       after ps = runOf (p .tables) ps (p .words)
 
-      one-more : (at + 16) / 16 ≡ at / 16 + 1
+      one-more : (at + lineSize) / lineSize ≡ at / lineSize + 1
       one-more = omega arith
 
-      turned : (ps : List ℕ) → Went c f time r (16 * (at / 16)) next (set (u .positions) f r) tr ps tr′
-          → Turning c bytes room ((at + 16) / 16) whole u₀ tr₀ (after ps) tr′
+      turned : (ps : List ℕ) → Went c f time r (lineSize * (at / lineSize)) next (set (u .positions) f r) tr ps tr′
+          → Turning c bytes room ((at + lineSize) / lineSize) whole u₀ tr₀ (after ps) tr′
       turned ps g =
           subst (λ (j : ℕ). Turning c bytes room j whole u₀ tr₀ (after ps) tr′) (sym one-more)
-          (goes-on c bytes room (at / 16) whole u₀ tr₀ (positioned u f r) tr (s .turning) f time r (s .here) (room-left h) unfinished p made next v ps tr′ g z)
+          (goes-on c bytes room (at / lineSize) whole u₀ tr₀ (positioned u f r) tr (s .turning) f time r (s .here) (room-left h) unfinished p made next v ps tr′ g z)
 
       -- the process stays current, and its position is kept beside the table
       pub stays : stayed (p .effect) ≡ true → tr′ ≡ put tr at (lineBytes time (linkageAt c f) r)
-          → Stretching c bytes n₀ whole u₀ tr₀ end (at + 16) f time next (after (u .positions)) tr′
+          → Stretching c bytes n₀ whole u₀ tr₀ end (at + lineSize) f time next (after (u .positions)) tr′
       stays st w =
           record {
             turning = turned (set (u .positions) f next) went;
             here =
-                stays-here c bytes room (at / 16) whole u₀ tr₀ (positioned u f r) tr (s .turning) f time r (s .here) (room-left h) unfinished p made next v
+                stays-here c bytes room (at / lineSize) whole u₀ tr₀ (positioned u f r) tr (s .turning) f time r (s .here) (room-left h) unfinished p made next v
                 (set (u .positions) f next) tr′ went st;
             begun = omega (arith, s .begun);
             even = omega (arith, s .even);
             end-is = s .end-is;
           }
         where
-          went : Went c f time r (16 * (at / 16)) next (set (u .positions) f r) tr (set (u .positions) f next) tr′
+          went : Went c f time r (lineSize * (at / lineSize)) next (set (u .positions) f r) tr (set (u .positions) f next) tr′
           went = record { positions = sym (set-set (u .positions) f r next); trace = w ∙ ap (λ (j : ℕ). put tr j (lineBytes time (linkageAt c f) r)) (s .even) }
 
       -- another may be current
       module _ (ps : List ℕ) (g : Went c f time r at next (u .positions) tr ps tr′) where
-        went : Went c f time r (16 * (at / 16)) next (set (u .positions) f r) tr ps tr′
+        went : Went c f time r (lineSize * (at / lineSize)) next (set (u .positions) f r) tr ps tr′
         went =
             record {
               positions = g .positions ∙ sym (set-set (u .positions) f r next);
@@ -173,13 +174,13 @@ module _ (c : Counts) (bytes : List ℕ) (n₀ : ℕ) (whole : RanOn) (u₀ : Ru
 
         pub next-kept : next ≡ getD ps f 0
         next-kept =
-            moved-on c bytes room (at / 16) whole u₀ tr₀ (positioned u f r) tr (s .turning) f time r (s .here) (room-left h) unfinished p made next v ps tr′ went
+            moved-on c bytes room (at / lineSize) whole u₀ tr₀ (positioned u f r) tr (s .turning) f time r (s .here) (room-left h) unfinished p made next v ps tr′ went
 
         pub moves : (f′ time′ r′ : ℕ) → f′ ≡ firstOf (half c) (p .tables .axis) → time′ ≡ getD (p .tables .times) f′ 0 → r′ ≡ getD ps f′ 0
-            → Stretching c bytes n₀ whole u₀ tr₀ end (at + 16) f′ time′ r′ (after ps) tr′
+            → Stretching c bytes n₀ whole u₀ tr₀ end (at + lineSize) f′ time′ r′ (after ps) tr′
         moves f′ time′ r′ ef et er =
             record {
-              turning = subst (λ (x : RunTables). Turning c bytes room ((at + 16) / 16) whole u₀ tr₀ x tr′) (as-positioned (after ps) f′ r′ er) (turned ps went);
+              turning = subst (λ (x : RunTables). Turning c bytes room ((at + lineSize) / lineSize) whole u₀ tr₀ x tr′) (as-positioned (after ps) f′ r′ er) (turned ps went);
               here = here-positioned c (after ps) f′ time′ r′ ef et er;
               begun = omega (arith, s .begun);
               even = omega (arith, s .even);
@@ -188,7 +189,7 @@ module _ (c : Counts) (bytes : List ℕ) (n₀ : ℕ) (whole : RanOn) (u₀ : Ru
 
   -- ---- the position goes to the table
 
-  module _ (n : ℕ) (en : n ≡ at / 16) where
+  module _ (n : ℕ) (en : n ≡ at / lineSize) where
     rest-is : (k : ℕ) → n + k ≡ room → turnsOn c bytes n k (positioned u f r) tr ≡ whole
     rest-is k q = ap (λ (j : ℕ). turnsOn c bytes j k (positioned u f r) tr) en ∙ s .turning .same k (omega arith)
 

@@ -15,6 +15,7 @@ use Rattle.model.specs.declared.answer.Answer.the-variants.{Done, Linkage, Numb
 use Rattle.model_laws.specs.Tables.{Tables}
 use Rattle.simset_laws.specs.Procedures.{emptyOf}
 use Rattle.sheet.specs.declared.records.Record.{Record}
+use Rattle.sheet.specs.Operations.{lastOperation}
 use Rattle.machine.specs.Calls.{Call}
 use Rattle.run_laws.specs.OnTables.{carriedOut}
 use Rattle.run_laws.specs.declared.Effect.{Effect}
@@ -63,7 +64,7 @@ module _ (q : Record) where
       rw (← e, ne-eqb o 1 a, ne-eqb o 4 b, ne-eqb o 6 c, ne-eqb o 8 d, ne-eqb o 10 f, ne-eqb o 12 g, ne-eqb o 13 h)
 
   -- past the arms of those that are made apart, 10 and 11 are left
-  pub left-apart : (o : ℕ) → o ≡ q .operation → apart q ≡ true → 1 ≤ o → o ≤ 13 → o ≢ 2 → o ≢ 3 → o ≢ 5 → o ≢ 7 → o ≢ 9 → (10 ≤ o) × (o ≤ 11)
+  pub left-apart : (o : ℕ) → o ≡ q .operation → apart q ≡ true → 1 ≤ o → o ≤ lastOperation → o ≢ 2 → o ≢ 3 → o ≢ 5 → o ≢ 7 → o ≢ 9 → (10 ≤ o) × (o ≤ 11)
   left-apart o is a lo hi n2 n3 n5 n7 n9 =
       the-rest o lo hi (no 1 (here 1 refl refl)) n2 n3 (no 4 (here 4 refl refl)) n5 (no 6 (here 6 refl refl)) n7 (no 8 (here 8 refl refl)) n9 (no 12 (here 12 refl refl)) (no 13 (here 13 refl refl))
     where

@@ -16,6 +16,7 @@ use Rattle.machine.specs.declared.End.the-variants.{Finished, Full, Refused}
 use Rattle.machine.specs.Machine.{Machine}
 use Rattle.machine.specs.Calls.{perform}
 use Rattle.machine.specs.Steps.{callNow, movedOn}
+use Rattle.machine.specs.Run.{lineSize, traceLimit}
 use Rattle.run_laws.specs.OnTables.{Carried, carriedOut}
 use Rattle.run_laws.specs.Run.{RunTables, Turned, On, Off, Stepped, callDue, turnedOf, moved, dueIn, lineIn, stepOn, endsNow, RanOn, stoppedOn, turnsOn}
 use Rattle.run_laws.specs.Standing.{Standing, sized, ready, positions-length, words-length}
@@ -84,14 +85,14 @@ pub record Turning (c : Counts) (bytes : List ℕ) (room n : ℕ) (whole : RanOn
   pub begun : Standing c bytes u₀
   pub stands : Standing c bytes u
   pub size : length tr ≡ length tr₀
-  pub room-is : room ≡ length tr₀ / 16
-  pub short : length tr₀ ≤ 65536
+  pub room-is : room ≡ length tr₀ / lineSize
+  pub short : length tr₀ ≤ traceLimit
   pub few : n ≤ room
   pub same : (k : ℕ) → n + k ≡ room → turnsOn c bytes n k u tr ≡ whole
 
 -- with n lines written, and room for j more
-pub turning-start : (c : Counts) (bytes : List ℕ) (n j : ℕ) (u : RunTables) (tr : List ℕ) → Standing c bytes u → length tr ≤ 65536 → n + j ≡ length tr / 16
-    → Turning c bytes (length tr / 16) n (turnsOn c bytes n j u tr) u tr u tr
+pub turning-start : (c : Counts) (bytes : List ℕ) (n j : ℕ) (u : RunTables) (tr : List ℕ) → Standing c bytes u → length tr ≤ traceLimit → n + j ≡ length tr / lineSize
+    → Turning c bytes (length tr / lineSize) n (turnsOn c bytes n j u tr) u tr u tr
 turning-start c bytes n j u tr s l q =
     record {
       begun = s;
@@ -114,7 +115,7 @@ module _ (c : Counts) (bytes : List ℕ) (room n : ℕ) (whole : RanOn) (u₀ : 
   pub most-lines : n ≤ 4096
   most-lines = omega (arith, t .few, t .room-is, t .short)
 
-  pub line-fits : n < room → 16 * n + 16 ≤ length tr
+  pub line-fits : n < room → lineSize * n + lineSize ≤ length tr
   line-fits l = omega (arith, t .room-is, t .size)
 
   -- at the end of the room
@@ -155,10 +156,10 @@ module _ (c : Counts) (bytes : List ℕ) (room n : ℕ) (whole : RanOn) (u₀ : 
     goes-is k p (On next) = refl
     goes-is k p (Off q) = refl
 
-    module _ (f : endsNow c (u .model .axis) (u .positions) ≡ false) (o : Stepped) (e : o ≡ stepOn c bytes (16 * n) u tr) where
+    module _ (f : endsNow c (u .model .axis) (u .positions) ≡ false) (o : Stepped) (e : o ≡ stepOn c bytes (lineSize * n) u tr) where
       by-step : (k : ℕ) → goes k o (o .turned) ≡ turnsOn c bytes n (suc k) u tr
       unfolding turnsOn
-      by-step k = ap (λ (p : Stepped). goes k p (p .turned)) e ∙ sym (rw (f, turnsOn) (goes-is k (stepOn c bytes (16 * n) u tr) (stepOn c bytes (16 * n) u tr .turned)))
+      by-step k = ap (λ (p : Stepped). goes k p (p .turned)) e ∙ sym (rw (f, turnsOn) (goes-is k (stepOn c bytes (lineSize * n) u tr) (stepOn c bytes (lineSize * n) u tr .turned)))
 
       pub step-refused : (k : ℕ) → k ≡ n → (q : Refusal) → o .turned ≡ Off q → stoppedOn k (Refused q) (o .run) (o .trace) ≡ whole
       step-refused k ek q v =
@@ -171,7 +172,7 @@ module _ (c : Counts) (bytes : List ℕ) (room n : ℕ) (whole : RanOn) (u₀ : 
       turning-on next v z =
           record {
             begun = t .begun;
-            stands = subst (λ (p : Stepped). Standing c bytes (p .run)) (sym e) (step-standing bytes u (16 * n) tr c next (t .stands) (ap (λ (p : Stepped). p .turned) (sym e) ∙ v));
+            stands = subst (λ (p : Stepped). Standing c bytes (p .run)) (sym e) (step-standing bytes u (lineSize * n) tr c next (t .stands) (ap (λ (p : Stepped). p .turned) (sym e) ∙ v));
             size = z ∙ t .size;
             room-is = t .room-is;
             short = t .short;
@@ -187,6 +188,6 @@ module _ (c : Counts) (bytes : List ℕ) (room n : ℕ) (whole : RanOn) (u₀ : 
       -- the position that is kept beside the table
       pub turning-at : (next p : ℕ) → o .turned ≡ On next → p ≡ firstOf (half c) (u .model .axis) → next ≡ getD (o .run .positions) p 0
       turning-at next p v is =
-          next-kept bytes u (16 * n) tr c next (t .stands) (ap (λ (q : Stepped). q .turned) (sym e) ∙ v)
+          next-kept bytes u (lineSize * n) tr c next (t .stands) (ap (λ (q : Stepped). q .turned) (sym e) ∙ v)
           ∙ ap (λ (q : Stepped). getD (q .run .positions) (firstOf (half c) (u .model .axis)) 0) (sym e)
           ∙ ap (λ (j : ℕ). getD (o .run .positions) j 0) (sym is)

@@ -19,7 +19,7 @@ use Rattle.machine.specs.declared.End.the-variants.{Finished, Full, Refused}
 use Rattle.machine.specs.Machine.{Machine}
 use Rattle.machine.specs.Calls.{perform}
 use Rattle.machine.specs.Steps.{callNow, Line, lineNow, Turn, ended, stepped, moving, step, movedOn}
-use Rattle.machine.specs.Run.{atEnd, turn, stopped, alsoLine, turns}
+use Rattle.machine.specs.Run.{atEnd, turn, stopped, alsoLine, turns, lineSize}
 use Rattle.machine.specs.Run as machine
 use Rattle.run_laws.specs.Run.{RunTables, On, Off, Stepped, stepOn, RanOn, stoppedOn, turnsOn}
 use Rattle.run_laws.specs.Standing.{Stands}
@@ -45,26 +45,26 @@ module _ (bytes : List ℕ) (ok : accepted bytes ≡ true) where
   pub record TurnsAre (n : ℕ) (tr : List ℕ) (r : machine.Ran) (o : RanOn) : Type 0 where
     pub lines : o .result .lines ≡ n + length (r .lines)
     pub end : o .result .end ≡ r .end
-    pub trace : o .trace ≡ put tr (16 * n) (linesBytes (r .lines))
+    pub trace : o .trace ≡ put tr (lineSize * n) (linesBytes (r .lines))
     pub run : Stands c (recordsOf bytes) (r .machine) (o .run)
 
   stop : (n : ℕ) (tr : List ℕ) (e : End) (m : Machine) (u : RunTables) → Stands c (recordsOf bytes) m u → TurnsAre n tr (stopped e m) (stoppedOn n e u tr)
-  stop n tr e m u g = record { lines = omega arith; end = refl; trace = sym (put-none tr (16 * n)); run = g }
+  stop n tr e m u g = record { lines = omega arith; end = refl; trace = sym (put-none tr (lineSize * n)); run = g }
 
   -- one line more
-  also : (n : ℕ) (tr : List ℕ) (l : Line) (r : machine.Ran) (o : RanOn) → 16 * n + 16 ≤ length tr → TurnsAre (suc n) (put tr (16 * n) (bytesOf l)) r o → TurnsAre n tr (alsoLine l r) o
+  also : (n : ℕ) (tr : List ℕ) (l : Line) (r : machine.Ran) (o : RanOn) → lineSize * n + lineSize ≤ length tr → TurnsAre (suc n) (put tr (lineSize * n) (bytesOf l)) r o → TurnsAre n tr (alsoLine l r) o
   also n tr l r o fit a =
       record {
         lines = omega (arith, a .lines);
         end = a .end;
         trace =
             a .trace
-            ∙ ap (λ (i : ℕ). put (put tr (16 * n) (bytesOf l)) i (linesBytes (r .lines))) (omega (arith, length-line (l .time) (l .process) (l .rec)))
-            ∙ put-put tr (16 * n) (bytesOf l) (linesBytes (r .lines)) (omega (arith, length-line (l .time) (l .process) (l .rec)));
+            ∙ ap (λ (i : ℕ). put (put tr (lineSize * n) (bytesOf l)) i (linesBytes (r .lines))) (omega (arith, length-line (l .time) (l .process) (l .rec)))
+            ∙ put-put tr (lineSize * n) (bytesOf l) (linesBytes (r .lines)) (omega (arith, length-line (l .time) (l .process) (l .rec)));
         run = a .run;
       }
 
-  pub turns-are : (k n : ℕ) (m : Machine) (u : RunTables) (tr : List ℕ) → Stands c (recordsOf bytes) m u → 16 * (n + k) ≤ length tr
+  pub turns-are : (k n : ℕ) (m : Machine) (u : RunTables) (tr : List ℕ) → Stands c (recordsOf bytes) m u → lineSize * (n + k) ≤ length tr
       → TurnsAre n tr (turns s k m) (turnsOn c bytes n k u tr)
   unfolding turns turn step turnsOn sheetOf
   turns-are zero n m u tr g fit =
@@ -74,7 +74,7 @@ module _ (bytes : List ℕ) (ok : accepted bytes ≡ true) where
   turns-are (suc k) n m u tr g fit =
       test (atEnd s m)
       (λ e. rw (ends-is bytes ok m u g ∙ e, e, turns) (stop n tr Finished m u g))
-      (λ e. rw (ends-is bytes ok m u g ∙ e, e, turns) (go (turns-are k (suc n)) (perform c (callNow s m) m) (stepOn c bytes (16 * n) u tr) (step-follows bytes ok m u g tr (16 * n))))
+      (λ e. rw (ends-is bytes ok m u g ∙ e, e, turns) (go (turns-are k (suc n)) (perform c (callNow s m) m) (stepOn c bytes (lineSize * n) u tr) (step-follows bytes ok m u g tr (lineSize * n))))
     where
       went : Turn → machine.Ran
       went t = elim t [ ended e ↦ stopped e m | stepped l j ↦ alsoLine l (turns s k j) ]
@@ -82,16 +82,16 @@ module _ (bytes : List ℕ) (ok : accepted bytes ≡ true) where
       goes : Stepped → RanOn
       goes o = elim (o .turned) [ On next ↦ turnsOn c bytes (suc n) k (o .run) (o .trace) | Off q ↦ stoppedOn n (Refused q) (o .run) (o .trace) ]
 
-      go : ((j : Machine) (v : RunTables) (t : List ℕ) → Stands c (recordsOf bytes) j v → 16 * (suc n + k) ≤ length t → TurnsAre (suc n) t (turns s k j) (turnsOn c bytes (suc n) k v t))
-          → (r : Result Machine) (o : Stepped) → StepIs bytes ok m u g r tr (16 * n) o → TurnsAre n tr (went (moving s m r)) (goes o)
+      go : ((j : Machine) (v : RunTables) (t : List ℕ) → Stands c (recordsOf bytes) j v → lineSize * (suc n + k) ≤ length t → TurnsAre (suc n) t (turns s k j) (turnsOn c bytes (suc n) k v t))
+          → (r : Result Machine) (o : Stepped) → StepIs bytes ok m u g r tr (lineSize * n) o → TurnsAre n tr (went (moving s m r)) (goes o)
       go f (refused q) o w =
           let x : TurnsAre n tr (stopped (Refused q) m) (stoppedOn n (Refused q) (o .run) (o .trace)) =
           subst (λ (t : List ℕ). TurnsAre n tr (stopped (Refused q) m) (stoppedOn n (Refused q) (o .run) t)) (sym (w .2))
           (subst (λ (v : RunTables). TurnsAre n tr (stopped (Refused q) m) (stoppedOn n (Refused q) v tr)) (sym (w .1)) (stop n tr (Refused q) m u g)) in
           rw (w .0) x
       go f (done j) o w =
-          let len : length (put tr (16 * n) (bytesOf (lineNow s m))) ≡ length tr = length-put tr (16 * n) (bytesOf (lineNow s m)) (omega (arith, length-line (lineNow s m .time) (lineNow s m .process) (lineNow s m .rec))) in
-          let t = put tr (16 * n) (bytesOf (lineNow s m)) in
+          let len : length (put tr (lineSize * n) (bytesOf (lineNow s m))) ≡ length tr = length-put tr (lineSize * n) (bytesOf (lineNow s m)) (omega (arith, length-line (lineNow s m .time) (lineNow s m .process) (lineNow s m .rec))) in
+          let t = put tr (lineSize * n) (bytesOf (lineNow s m)) in
           rw (w .0)
           (subst (λ (t : List ℕ). TurnsAre n tr (alsoLine (lineNow s m) (turns s k (movedOn s m j))) (turnsOn c bytes (suc n) k (o .run) t)) (sym (w .2))
           (also n tr (lineNow s m) _ _ (omega arith) (f _ (o .run) _ (w .1) (omega arith))))

@@ -10,6 +10,7 @@ use Rattle.ring_laws.specs.Lists.{decide}
 use Rattle.model.specs.declared.Counts.{Counts}
 use Rattle.model.specs.declared.call.SetCall.the-variants.{Out, Follow, Precede, Into, Clear}
 use Rattle.sheet.specs.declared.records.Record.{Record}
+use Rattle.sheet.specs.Accepted.{operandBase}
 use Rattle.machine.specs.Calls.{onSet, hold, passivate, wait, cancel, activate, ifEmpty, finish, Call, onList, accum}
 use Rattle.machine.specs.Steps.{callOf}
 use Rattle.run_laws.specs.OnTables.{operandWith}
@@ -84,7 +85,7 @@ module _ (c : Counts) (links : List ℕ) (f : ℕ) (q : Record) where
   -- "in 13, x is 1 to 64": it stands for itself
   pub call-13 : q .operation ≡ 13 → q .x ≤ 64 → due ≡ accum (q .x) (q .t)
   unfolding callOf operandWith
-  call-13 e l = some 13 e (λ z. omega arith) ∙ (rw (e, lt-ltb (q .x) 65536 (omega arith)))
+  call-13 e l = some 13 e (λ z. omega arith) ∙ (rw (e, lt-ltb (q .x) operandBase (omega arith)))
 
 -- past 9, without 12 and 13
 past : (n k : ℕ) → k ≤ n → n ≢ k → k + 1 ≤ n

@@ -12,6 +12,7 @@ use Rattle.run_laws.specs.declared.Ran.{Ran}
 use Rattle.run_laws.specs.Run.{RunTables, RanOn, runOn}
 use Rattle.run_laws.specs.Standing.{Standing, its-judged, in-positions}
 use Rattle.run_laws.specs.GoesOn.{run-stands, run-room}
+use Rattle.machine.specs.Run.{lineSize}
 
 -- the tables and the answer
 pub record Left : Type 0 where
@@ -37,7 +38,7 @@ module _ (bytes : List ℕ) (u : RunTables) (tr : List ℕ) (k : ℕ) (v : RunTa
   left-stands c s = subst (Standing c bytes) (sym (ap (λ (l : Left). l .run) e)) (run-stands c bytes u (take k tr) s)
 
   -- and its lines stand in the trace
-  pub left-room : k ≤ length tr → 16 * r .lines ≤ length tr
+  pub left-room : k ≤ length tr → lineSize * r .lines ≤ length tr
   unfolding leftBy
   left-room h =
       omega (arith, run-room bytes u (take k tr), ap (λ (l : Left). l .result .lines) e, length-take-le k tr h)

@@ -11,6 +11,7 @@ ghost use Prim.Native.Nat.{_+_, _*_, _≤_};
 ghost use lib.ListN.{length};
 ghost use Rattle.run_laws.specs.Run.{lent};
 ghost use Rattle.run_print.specs.Pieces.{leftBy};
+ghost use Rattle.machine.specs.Run.{lineSize};
 
 // The call, with the first k bytes of the trace.
 pub(crate) fn piece(
@@ -42,7 +43,7 @@ pub(crate) fn piece(
 
 // The line whose 16 bytes begin at i: its time, process and record.
 fn put_line(out: &mut [u8; 4096], at: usize, trace: &[u8], i: usize) -> usize
-    requires { ⌜ i + 16 ≤ length (now trace) ⌝ }
+    requires { ⌜ i + lineSize ≤ length (now trace) ⌝ }
     requires { ⌜ at + 128 ≤ 4096 ⌝ }
     ensures { λ r. ⌜ r ≤ 4096 ⌝ }
 {
@@ -57,7 +58,7 @@ fn put_line(out: &mut [u8; 4096], at: usize, trace: &[u8], i: usize) -> usize
 // The first n lines of the trace.
 pub(crate) fn put_lines(out: &mut [u8; 4096], start: usize, trace: &[u8], n: u32) -> usize
     requires { ⌜ start ≤ 4096 ⌝ }
-    requires { ⌜ 16 * n ≤ length (now trace) ⌝ }
+    requires { ⌜ lineSize * n ≤ length (now trace) ⌝ }
     ensures { λ r. ⌜ r ≤ 4096 ⌝ }
 {
     let mut at = start;

@@ -24,6 +24,7 @@ ghost use Rattle.run_laws.specs.Run.{lent};
 ghost use Rattle.run_laws.specs.Standing.{Standing};
 ghost use Rattle.run_laws.specs.Starting.{Startable};
 ghost use Rattle.run_print.specs.Pieces.{Located};
+ghost use Rattle.machine.specs.Run.{traceLimit};
 
 // Lines of a whole piece, and pieces: 244 whole ones and one of 576 lines are 1,000,000.
 pub const LINES: usize = 4096;
@@ -32,7 +33,7 @@ pub const WHOLE: usize = 244;
 
 // Trace bytes for piece i.
 fn room(i: usize) -> usize
-    ensures { λ r. ⌜ r ≤ 65536 ⌝ }
+    ensures { λ r. ⌜ r ≤ traceLimit ⌝ }
 {
     if i < WHOLE {
         return 65536;
@@ -86,7 +87,7 @@ fn pieces(
     trace: &mut [u8],
 )
     requires { ⌜ Standing c (now sheet) (lent (now links) (now axis) (now times) (now marks) (now positions) (now accums)) ⌝ }
-    requires { ⌜ 65536 ≤ length (now trace) ⌝ }
+    requires { ⌜ traceLimit ≤ length (now trace) ⌝ }
 {
     let mut out = [0u8; 4096];
     let mut at = 0;
@@ -164,7 +165,7 @@ fn on_tables(
     trace: &mut [u8],
 )
     requires { ⌜ Startable header (now sheet) (lent (now links) (now axis) (now times) (now marks) (now positions) (now accums)) (now trace) ⌝ }
-    requires { ⌜ 65536 ≤ length (now trace) ⌝ }
+    requires { ⌜ traceLimit ≤ length (now trace) ⌝ }
 {
     fresh_run(sheet, links, axis, times, marks, positions, accums);
     let c = header.counts;

@@ -31,7 +31,7 @@ ghost use Rattle.simulation_laws.specs.Calls.{holdStep, cancelStep, timedStep, 
 ghost use Rattle.simulation_laws.specs.Promise.{sqs, Answers, Judged, Takeable, Noticed};
 ghost use Rattle.simulation_laws.specs.StepPromise.{WaitMade};
 ghost use Rattle.accum_laws.specs.Flat.{updatedIn};
-ghost use Rattle.sheet.specs.Sheet.{recordFrom};
+ghost use Rattle.sheet.specs.Sheet.{recordFrom, recordBytes};
 ghost use Rattle.run_laws.specs.OnTables.{operandWith};
 ghost use Rattle.run_laws.specs.Needs.{Readable};
 
@@ -90,7 +90,7 @@ pub(crate) fn hold_of(
     f: u32,
     time: u64,
 ) -> Answer
-    requires { ⌜ i + 24 ≤ length (now sheet) ⌝ }
+    requires { ⌜ i + recordBytes ≤ length (now sheet) ⌝ }
     requires { ⌜ Takeable c (now axis) (now times) ⌝ }
     requires { ⌜ Noticed (half c) f time (now axis) (now times) ⌝ }
     ensures { λ r. ⌜ Answers (half c) (holdStep c (recordFrom (now (sheet .entry)) i .t) (sqs (now (axis .entry)) (now (times .entry)))) (now (axis .exit)) (now (times .exit)) r ⌝ }
@@ -207,7 +207,7 @@ pub(crate) fn timed_of(
 }
 
 pub(crate) fn accum_of(sheet: &[u8], i: usize, accums: &mut [i64], time: u64) -> Answer
-    requires { ⌜ i + 24 ≤ length (now sheet) ⌝ }
+    requires { ⌜ i + recordBytes ≤ length (now sheet) ⌝ }
     requires { ⌜ (1 ≤ recordFrom (now sheet) i .x) × (3 * recordFrom (now sheet) i .x ≤ length (now accums)) × (time ≤ limit) ⌝ }
     ensures { λ r. ⌜ record { words = now (accums .exit); answer = r } ≡ updatedIn (recordFrom (now (sheet .entry)) i .x) time (recordFrom (now (sheet .entry)) i .t) (now (accums .entry)) ⌝ }
 {

@@ -15,6 +15,7 @@ ghost use lib.ListN.{length, set};
 ghost use Rattle.model.specs.Counts.{linkageAt};
 ghost use Rattle.trace.specs.Lines.{put, lineBytes};
 ghost use Rattle.run_laws.specs.StepIs.{Went};
+ghost use Rattle.machine.specs.Run.{lineSize};
 
 // The process at place f is at record r now.
 pub fn place(positions: &mut [u32], f: u32, r: u32)
@@ -28,7 +29,7 @@ pub fn place(positions: &mut [u32], f: u32, r: u32)
 // The line of time, the process at place f and record r goes to byte i.
 pub fn write(c: Counts, trace: &mut [u8], f: u32, time: u64, r: u32, i: usize)
     requires { ⌜ c .heads + f < 4294967296 ⌝ }
-    requires { ⌜ i + 16 ≤ length (now trace) ⌝ }
+    requires { ⌜ i + lineSize ≤ length (now trace) ⌝ }
     ensures { λ _. ⌜ now (trace .exit) ≡ put (now (trace .entry)) i (lineBytes time (linkageAt c f) r) ⌝ }
 {
     put_line(trace, i, time, c.heads + f, r);
@@ -47,7 +48,7 @@ pub fn move_on(
 )
     requires { ⌜ f < length (now positions) ⌝ }
     requires { ⌜ c .heads + f < 4294967296 ⌝ }
-    requires { ⌜ i + 16 ≤ length (now trace) ⌝ }
+    requires { ⌜ i + lineSize ≤ length (now trace) ⌝ }
     ensures { λ _. ⌜ Went c f time r i next (now (positions .entry)) (now (trace .entry)) (now (positions .exit)) (now (trace .exit)) ⌝ }
 {
     place(positions, f, next);

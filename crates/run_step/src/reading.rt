@@ -14,7 +14,7 @@ ghost use lib.Dec.{eqb};
 ghost use lib.ListN.{length, getD};
 ghost use Rattle.model_laws.specs.Now.{half, firstOf};
 ghost use Rattle.simulation_laws.specs.Promise.{Judged};
-ghost use Rattle.sheet.specs.Sheet.{recordOffset, recordFrom};
+ghost use Rattle.sheet.specs.Sheet.{recordOffset, recordFrom, recordBytes};
 ghost use Rattle.sheet.specs.Accepted.{isOperand};
 ghost use Rattle.run_laws.specs.OnTables.{operandWith};
 ghost use Rattle.run_laws.specs.Needs.{Resolvable, Readable};
@@ -70,7 +70,7 @@ pub fn is_end(f: u32, r: u32) -> bool
 
 // The next of record r; of the one that stands for finish, 0.
 pub fn next_of(sheet: &[u8], processes: u32, r: u32) -> u32
-    requires { ⌜ (r ≢ 0 → recordOffset processes r + 24 ≤ length (now sheet)) ⌝ }
+    requires { ⌜ (r ≢ 0 → recordOffset processes r + recordBytes ≤ length (now sheet)) ⌝ }
     ensures { λ n. ⌜ n ≡ recordGot processes (now (sheet .entry)) r .next ⌝ }
 {
     if r == 0 {

@@ -19,6 +19,7 @@ ghost use lib.ListN.{length};
 ghost use Rattle.run_laws.specs.Run.{lent, turnsOn};
 ghost use Rattle.run_laws.specs.Standing.{Standing};
 ghost use Rattle.run_laws.specs.Paused.{Paused};
+ghost use Rattle.machine.specs.Run.{lineSize, traceLimit};
 
 // From a trace of so many lines on; the trace's place is counted in bytes.
 pub(crate) fn stretch(
@@ -34,10 +35,10 @@ pub(crate) fn stretch(
     lines: usize,
 ) -> Stretch
     requires { ⌜ Standing c (now sheet) (lent (now links) (now axis) (now times) (now marks) (now positions) (now accums)) ⌝ }
-    requires { ⌜ length (now trace) ≤ 65536 ⌝ }
-    requires { ⌜ lines ≤ length (now trace) / 16 ⌝ }
+    requires { ⌜ length (now trace) ≤ traceLimit ⌝ }
+    requires { ⌜ lines ≤ length (now trace) / lineSize ⌝ }
     ensures { λ s. ⌜ Paused c (now (sheet .entry)) lines
-        (turnsOn c (now (sheet .entry)) lines (length (now (trace .entry)) / 16 - lines) (lent (now (links .entry)) (now (axis .entry)) (now (times .entry)) (now (marks .entry)) (now (positions .entry)) (now (accums .entry))) (now (trace .entry)))
+        (turnsOn c (now (sheet .entry)) lines (length (now (trace .entry)) / lineSize - lines) (lent (now (links .entry)) (now (axis .entry)) (now (times .entry)) (now (marks .entry)) (now (positions .entry)) (now (accums .entry))) (now (trace .entry)))
         (now (trace .entry)) (lent (now (links .exit)) (now (axis .exit)) (now (times .exit)) (now (marks .exit)) (now (positions .exit)) (now (accums .exit))) (now (trace .exit)) s ⌝ }
 {
     let end = 16 * (trace.len() / 16);

@@ -17,6 +17,7 @@ ghost use Prim.Native.Nat.{_+_, _≤_};
 ghost use lib.ListN.{length};
 ghost use Rattle.run_laws.specs.Run.{lent, turnOn};
 ghost use Rattle.run_laws.specs.Standing.{Standing};
+ghost use Rattle.machine.specs.Run.{lineSize};
 
 // The line, if there is one, goes to byte i.
 pub fn turn(
@@ -32,7 +33,7 @@ pub fn turn(
     i: usize,
 ) -> Turn
     requires { ⌜ Standing c (now sheet) (lent (now links) (now axis) (now times) (now marks) (now positions) (now accums)) ⌝ }
-    requires { ⌜ i + 16 ≤ length (now trace) ⌝ }
+    requires { ⌜ i + lineSize ≤ length (now trace) ⌝ }
     ensures { λ r. ⌜ record { run = lent (now (links .exit)) (now (axis .exit)) (now (times .exit)) (now (marks .exit)) (now (positions .exit)) (now (accums .exit)); trace = now (trace .exit); turn = r }
         ≡ turnOn c (now (sheet .entry)) i (lent (now (links .entry)) (now (axis .entry)) (now (times .entry)) (now (marks .entry)) (now (positions .entry)) (now (accums .entry))) (now (trace .entry)) ⌝ }
 {

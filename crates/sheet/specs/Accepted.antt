@@ -12,8 +12,8 @@ use Rattle.model.specs.declared.Refusal.the-variants.{Layout}
 use Rattle.model.specs.Refusals.{refusalNumber}
 use Rattle.sheet.specs.AllTo.{allTo}
 use Rattle.words.specs.Words.{u8At}
-use Rattle.sheet.specs.Sheet.{countsOf, recordsOf, startAt, recordOffset, recordFrom}
-use Rattle.sheet.specs.Operations.{usesOf}
+use Rattle.sheet.specs.Sheet.{countsOf, recordsOf, startAt, recordOffset, recordFrom, headerBytes, recordBytes}
+use Rattle.sheet.specs.Operations.{usesOf, lastOperation}
 use Rattle.sheet.specs.declared.header.Header.{Header}
 use Rattle.sheet.specs.declared.header.Checked.{Checked}
 use Rattle.sheet.specs.declared.header.Checked.the-variants.{Accepted, Refused}
@@ -30,7 +30,7 @@ headerOf s = record { counts = countsOf s; records = recordsOf s }
 
 -- "Length is exactly 16 + 4 × P + 24 × R"
 abbrev pub lengthOf : Header → ℕ
-lengthOf h = 16 + 4 * h .counts .processes + 24 * h .records
+lengthOf h = headerBytes + 4 * h .counts .processes + recordBytes * h .records
 
 -- "R is 0 to 2,000", and the length is exactly that
 unfoldable pub sizeFine : List ℕ → Header → Bool
@@ -38,13 +38,17 @@ sizeFine s h = leb (h .records) 2000 && eqb (length s) (lengthOf h)
 
 -- a whole header, counts in their limits, and the length that these give
 unfoldable pub sized : List ℕ → Bool
-sized s = leb 16 (length s) && (inLimits (countsOf s) && sizeFine s (headerOf s))
+sized s = leb headerBytes (length s) && (inLimits (countsOf s) && sizeFine s (headerOf s))
 
 -- ---- a record
 
+-- "65,536 for current, or 65,536 + h .. for the first member of head h"
+abbrev pub operandBase : ℕ
+operandBase = 65536
+
 -- "An operand is 0 to N, or 65,536 for current, or 65,536 + h, h from 1 to H"
 unfoldable pub isOperand : Counts → ℕ → Bool
-isOperand c v = leb v (total c) || (eqb v 65536 || isHead c (v - 65536))
+isOperand c v = leb v (total c) || (eqb v operandBase || isHead c (v - operandBase))
 
 -- "in 13, x is 1 to 64"
 abbrev pub isAccumulator : ℕ → Bool
@@ -70,7 +74,7 @@ unfoldable pub recordFine : Header → Record → Bool
 recordFine h q =
     leb (q .next) (h .records)
     && (leb 1 (q .operation)
-    && (leb (q .operation) 13
+    && (leb (q .operation) lastOperation
     && (leb (q .clause) 6
     && fieldsFine h (usesOf (q .operation) (q .clause)) q)))
 

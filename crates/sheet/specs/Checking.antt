@@ -13,7 +13,7 @@ use Rattle.model.specs.declared.CountsMade.{CountsMade}
 use Rattle.model.specs.declared.CountsMade.the-variants as made
 use Rattle.model.specs.declared.Refusal.{Refusal}
 use Rattle.model.specs.declared.Refusal.the-variants.{Layout}
-use Rattle.sheet.specs.Sheet.{countsOf, recordsOf}
+use Rattle.sheet.specs.Sheet.{countsOf, recordsOf, headerBytes}
 use Rattle.sheet.specs.Accepted.{headerOf, lengthOf, sizeFine, sized, startsTo, recordsTo, accepted, answer, checked}
 use Rattle.sheet.specs.declared.header.Header.{Header}
 use Rattle.sheet.specs.declared.header.Checked.{Checked}
@@ -31,17 +31,17 @@ answer-no false h q e = (refl, cc)
 -- ---- the header
 
 module _ (s : List ℕ) where
-  pub too-short : length s < 16 → Refused Layout ≡ answer (sized s) (headerOf s)
+  pub too-short : length s < headerBytes → Refused Layout ≡ answer (sized s) (headerOf s)
   unfolding sized
-  too-short l = rw (lt-leb 16 (length s) l)
+  too-short l = rw (lt-leb headerBytes (length s) l)
 
-  module _ (long : 16 ≤ length s) (m : CountsMade) (is : m ≡ madeOf (countsOf s)) where
+  module _ (long : headerBytes ≤ length s) (m : CountsMade) (is : m ≡ madeOf (countsOf s)) where
     pub counts-refused : (q : Refusal) → m ≡ made.Refused q → Refused Layout ≡ answer (sized s) (headerOf s)
     unfolding sized madeOf
     counts-refused q e =
         test (inLimits (countsOf s))
         (λ t. let y : made.Made (countsOf s) ≡ made.Refused q = sym (rw t) ∙ (sym is ∙ e) in let z : false ≡ true = cc in clash z)
-        (λ t. rw (le-leb 16 (length s) long, t))
+        (λ t. rw (le-leb headerBytes (length s) long, t))
 
     pub counts-made : (c : Counts) (R : ℕ) → m ≡ made.Made c → R ≡ recordsOf s
         → answer (sizeFine s (record { counts = c; records = R })) (record { counts = c; records = R }) ≡ answer (sized s) (headerOf s)
@@ -50,7 +50,7 @@ module _ (s : List ℕ) where
         let a = made-allowed (countsOf s) c (sym is ∙ e) in
         let k : record { counts = c; records = R } ≡ headerOf s = cc in
         ap (λ (h : Header). answer (sizeFine s h) h) k
-        ∙ rw (le-leb 16 (length s) long, allowed-limits (countsOf s) (a .1))
+        ∙ rw (le-leb headerBytes (length s) long, allowed-limits (countsOf s) (a .1))
 
 -- ---- the sheet
 
@@ -66,7 +66,7 @@ module _ (s : List ℕ) (r : Checked) (from : r ≡ answer (sized s) (headerOf s
     pub header-length : length s ≡ lengthOf h
     unfolding sized sizeFine
     header-length =
-        let b = both (leb 16 (length s)) (inLimits (countsOf s) && sizeFine s (headerOf s)) (yes-sized .0) in
+        let b = both (leb headerBytes (length s)) (inLimits (countsOf s) && sizeFine s (headerOf s)) (yes-sized .0) in
         let d = both (inLimits (countsOf s)) (sizeFine s (headerOf s)) (b .1) in
         let f = both (leb (recordsOf s) 2000) (eqb (length s) (lengthOf (headerOf s))) (d .1) in
         eqb-true (length s) (lengthOf (headerOf s)) (f .1) ∙ ap lengthOf (sym (yes-sized .1))

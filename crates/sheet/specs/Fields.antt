@@ -11,8 +11,8 @@ use Rattle.ring_laws.specs.Lists.{test, clash}
 use Rattle.model.specs.Counts.{Allowed, total, both}
 use Rattle.model.specs.declared.Counts.{Counts}
 use Rattle.sheet.specs.AllTo.{allTo, all-at}
-use Rattle.sheet.specs.Operations.{rowOf, under, usesOf}
-use Rattle.sheet.specs.Accepted.{isOperand, mayHold, fieldsFine, recordFine}
+use Rattle.sheet.specs.Operations.{rowOf, under, usesOf, lastOperation}
+use Rattle.sheet.specs.Accepted.{isOperand, mayHold, fieldsFine, recordFine, operandBase}
 use Rattle.sheet.specs.Tests.{or-off, operand-linkage}
 use Rattle.sheet.specs.declared.header.Header.{Header}
 use Rattle.sheet.specs.declared.operations.Holds.{Holds}
@@ -24,27 +24,27 @@ use Rattle.sheet.specs.declared.records.Record.{Record}
 
 -- a linkage or none, current, or the first member of a head
 abbrev pub OperandIs : Counts → ℕ → Type 0
-OperandIs c v = (v ≤ total c) ⊎ ((v ≡ 65536) ⊎ ((65536 < v) × (v ≤ 65536 + c .heads)))
+OperandIs c v = (v ≤ total c) ⊎ ((v ≡ operandBase) ⊎ ((operandBase < v) × (v ≤ operandBase + c .heads)))
 
 pub operand-kinds : (c : Counts) (v : ℕ) → isOperand c v ≡ true → OperandIs c v
 unfolding isOperand
 operand-kinds c v e =
     test (leb v (total c))
     (λ t. inl (leb-true v (total c) t))
-    (λ t. test (eqb v 65536)
-    (λ u. inr (inl (eqb-true v 65536 u)))
-    (λ u. inr (inr (above (both (leb 1 (v - 65536)) (leb (v - 65536) (c .heads)) (or-off _ _ _ t (or-off _ _ _ u refl) ∙ e)))))
+    (λ t. test (eqb v operandBase)
+    (λ u. inr (inl (eqb-true v operandBase u)))
+    (λ u. inr (inr (above (both (leb 1 (v - operandBase)) (leb (v - operandBase) (c .heads)) (or-off _ _ _ t (or-off _ _ _ u refl) ∙ e)))))
     )
   where
-    above : (leb 1 (v - 65536) ≡ true) × (leb (v - 65536) (c .heads) ≡ true) → (65536 < v) × (v ≤ 65536 + c .heads)
+    above : (leb 1 (v - operandBase) ≡ true) × (leb (v - operandBase) (c .heads) ≡ true) → (operandBase < v) × (v ≤ operandBase + c .heads)
     above p =
-        let l = leb-true 1 (v - 65536) (p .0) in
-        let m = leb-true (v - 65536) (c .heads) (p .1) in
+        let l = leb-true 1 (v - operandBase) (p .0) in
+        let m = leb-true (v - operandBase) (c .heads) (p .1) in
         (omega arith, omega arith)
 
 -- above 65,536 stands a head
 module _ (c : Counts) (a : Allowed c) (v : ℕ) (o : isOperand c v ≡ true) where
-  pub operand-high : 65536 < v → (1 ≤ v - 65536) × (v - 65536 ≤ c .heads)
+  pub operand-high : operandBase < v → (1 ≤ v - operandBase) × (v - operandBase ≤ c .heads)
   operand-high l =
       ⊎-elim (λ k. absurd (far k))
       (⊎-elim (λ e. (omega arith, omega arith)) (λ p. (omega (arith, p .0), omega (arith, p .1)))) (operand-kinds c v o)
@@ -69,11 +69,11 @@ plainly-operand h RecordNumber v p e = clash p
 plainly-operand h AccumulatorNumber v p e = clash p
 
 -- x is an operand in all but 13, y in all but 12
-x-plain : allTo (λ op. eqb op 13 || plainly (rowOf op .x)) 13 ≡ true
+x-plain : allTo (λ op. eqb op 13 || plainly (rowOf op .x)) lastOperation ≡ true
 unfolding allTo rowOf
 x-plain = refl
 
-y-plain : allTo (λ op. eqb op 12 || plainly (rowOf op .y)) 13 ≡ true
+y-plain : allTo (λ op. eqb op 12 || plainly (rowOf op .y)) lastOperation ≡ true
 unfolding allTo rowOf
 y-plain = refl
 
@@ -92,7 +92,7 @@ under-y k u p =
 pub record Ranged (h : Header) (q : Record) : Type 0 where
   pub next-in : q .next ≤ h .records
   pub operation-some : 1 ≤ q .operation
-  pub operation-in : q .operation ≤ 13
+  pub operation-in : q .operation ≤ lastOperation
   pub clause-in : q .clause ≤ 6
   pub x-operand : q .operation ≢ 13 → isOperand (h .counts) (q .x) ≡ true
   pub y-operand : q .operation ≢ 12 → isOperand (h .counts) (q .y) ≡ true
@@ -107,7 +107,7 @@ pub record Ranged (h : Header) (q : Record) : Type 0 where
 record Passed (h : Header) (q : Record) (u : Uses) : Type 0 where
   next : leb (q .next) (h .records) ≡ true
   some : leb 1 (q .operation) ≡ true
-  most : leb (q .operation) 13 ≡ true
+  most : leb (q .operation) lastOperation ≡ true
   clause : leb (q .clause) 6 ≡ true
   uses : (u .clause || eqb (q .clause) 0) ≡ true
   x : mayHold h (u .x) (q .x) ≡ true
@@ -120,7 +120,7 @@ passed h q e =
     let u = usesOf (q .operation) (q .clause) in
     let p1 = both (leb (q .next) (h .records)) _ e in
     let p2 = both (leb 1 (q .operation)) _ (p1 .1) in
-    let p3 = both (leb (q .operation) 13) _ (p2 .1) in
+    let p3 = both (leb (q .operation) lastOperation) _ (p2 .1) in
     let p4 = both (leb (q .clause) 6) _ (p3 .1) in
     let p5 = both (u .clause || eqb (q .clause) 0) _ (p4 .1) in
     let p6 = both (mayHold h (u .x) (q .x)) _ (p5 .1) in
@@ -145,8 +145,8 @@ module _ (h : Header) (q : Record) (fine : recordFine h q ≡ true) where
   its : Passed h q (usesOf (q .operation) (q .clause))
   its = passed h q fine
 
-  plain-at : (f : ℕ → Bool) → allTo f 13 ≡ true → f (q .operation) ≡ true
-  plain-at f e = all-at f 13 e (q .operation) (leb-true _ _ (its .some)) (leb-true _ _ (its .most))
+  plain-at : (f : ℕ → Bool) → allTo f lastOperation ≡ true → f (q .operation) ≡ true
+  plain-at f e = all-at f lastOperation e (q .operation) (leb-true _ _ (its .some)) (leb-true _ _ (its .most))
 
   operand-x : q .operation ≢ 13 → isOperand (h .counts) (q .x) ≡ true
   operand-x n =

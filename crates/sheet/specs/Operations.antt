@@ -17,6 +17,10 @@ use Rattle.sheet.specs.declared.operations.Uses.{Uses}
 abbrev pub plain : Holds → Holds → Bool → Uses
 plain x y t = record { clause = false; x = x; y = y; t = t }
 
+-- "Operations are 1 to 13"
+abbrev pub lastOperation : ℕ
+lastOperation = 13
+
 -- "operation | fields used"
 unfoldable pub rowOf : ℕ → Uses
 rowOf op =
@@ -44,8 +48,8 @@ usesOf op clause = under clause (rowOf op)
 -- ---- the constant table
 
 -- a list that spells the rows from 1 on has the row of op at op - 1
-pub row-at : (xs : List Uses) (d : Uses) → xs ≡ listed rowOf 1 13 → (op : ℕ) → 1 ≤ op → op ≤ 13 → getD xs (op - 1) d ≡ rowOf op
-row-at xs d e op a b = ap (λ (l : List Uses). getD l (op - 1) d) e ∙ listed-at rowOf d 13 1 (op - 1) (omega arith) ∙ ap rowOf (omega arith)
+pub row-at : (xs : List Uses) (d : Uses) → xs ≡ listed rowOf 1 lastOperation → (op : ℕ) → 1 ≤ op → op ≤ lastOperation → getD xs (op - 1) d ≡ rowOf op
+row-at xs d e op a b = ap (λ (l : List Uses). getD l (op - 1) d) e ∙ listed-at rowOf d lastOperation 1 (op - 1) (omega arith) ∙ ap rowOf (omega arith)
 
 -- ---- the narrowing, by its cases
 

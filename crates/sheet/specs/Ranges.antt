@@ -13,7 +13,7 @@ use Rattle.model.specs.declared.Refusal.the-variants.{Layout}
 use Rattle.ring_laws.specs.Lists.{if_then_else_, test}
 use Rattle.ring_laws.specs.Tabulate.{listed-at, length-listed}
 use Rattle.sheet.specs.AllTo.{all-at}
-use Rattle.sheet.specs.Sheet.{countsOf, recordsOf, startOffset, startAt, recordOffset, recordAt, sheetOf}
+use Rattle.sheet.specs.Sheet.{countsOf, recordsOf, startOffset, startAt, recordOffset, recordAt, sheetOf, headerBytes, recordBytes}
 use Rattle.sheet.specs.Accepted.{headerOf, lengthOf, sizeFine, sized, recordFine, padFine, startsTo, layoutFine, recordsTo, accepted, checked, checkedCode}
 use Rattle.sheet.specs.Checking.{answer-yes, answer-no}
 use Rattle.sheet.specs.Fields.{Ranged, ranged}
@@ -74,7 +74,7 @@ module _ (s : List ℕ) (is : accepted s ≡ true) where
 
   limited : (inLimits (countsOf s) ≡ true) × (sizeFine s (headerOf s) ≡ true)
   unfolding sized
-  limited = both (inLimits (countsOf s)) _ (both (leb 16 (length s)) _ is-sized .1)
+  limited = both (inLimits (countsOf s)) _ (both (leb headerBytes (length s)) _ is-sized .1)
 
   pub allowed-counts : Allowed (countsOf s)
   allowed-counts = limits-allowed (countsOf s) (limited .0)
@@ -86,7 +86,7 @@ module _ (s : List ℕ) (is : accepted s ≡ true) where
   pub few-records : recordsOf s ≤ 2000
   few-records = leb-true _ _ (size .0)
 
-  pub exact-length : length s ≡ 16 + 4 * countsOf s .processes + 24 * recordsOf s
+  pub exact-length : length s ≡ headerBytes + 4 * countsOf s .processes + recordBytes * recordsOf s
   exact-length = eqb-true _ _ (size .1)
 
   module _ (p : ℕ) (some : 1 ≤ p) (most : p ≤ countsOf s .processes) where
@@ -97,7 +97,7 @@ module _ (s : List ℕ) (is : accepted s ≡ true) where
     start-in = leb-true _ _ (all-at (λ k. leb (startAt s k) (recordsOf s)) (countsOf s .processes) (filled .0) p some most)
 
   module _ (r : ℕ) (some : 1 ≤ r) (most : r ≤ recordsOf s) where
-    pub record-inside : recordOffset (countsOf s .processes) r + 24 ≤ length s
+    pub record-inside : recordOffset (countsOf s .processes) r + recordBytes ≤ length s
     record-inside = omega (arith, exact-length)
 
     pub record-in : Ranged (headerOf s) (recordAt s r)

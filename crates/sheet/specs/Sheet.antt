@@ -13,16 +13,23 @@ countsOf s = record { heads = u32At s 0; processes = u32At s 4; plains = u32At s
 unfoldable pub recordsOf : List ℕ → ℕ
 recordsOf s = u32At s 12
 
+-- "Header: H, P, L, R, 32 bits each", and "records of 24 bytes"
+abbrev pub headerBytes : ℕ
+headerBytes = 16
+
+abbrev pub recordBytes : ℕ
+recordBytes = 24
+
 -- "Then P start fields, 32 bits: the record where that process begins"
 abbrev pub startOffset : ℕ → ℕ
-startOffset p = 16 + 4 * (p - 1)
+startOffset p = headerBytes + 4 * (p - 1)
 
 unfoldable pub startAt : List ℕ → ℕ → ℕ
 startAt s p = u32At s (startOffset p)
 
 -- "Then R records of 24 bytes, numbered from 1"
 abbrev pub recordOffset : ℕ → ℕ → ℕ
-recordOffset P r = 16 + 4 * P + 24 * (r - 1)
+recordOffset P r = headerBytes + 4 * P + recordBytes * (r - 1)
 
 -- "next (32 bits), operation (8), clause (8), two zero bytes, x (32), y (32), t (signed 64)"
 unfoldable pub recordFrom : List ℕ → ℕ → Record

@@ -17,8 +17,8 @@ use Rattle.model.specs.declared.Counts.{Counts}
 use Rattle.model.specs.declared.Refusal.the-variants.{Layout}
 use Rattle.words.specs.Words.{u8At, u32At, i64At}
 use Rattle.sheet.specs.Sheet.{recordOffset, recordFrom}
-use Rattle.sheet.specs.Operations.{usesOf}
-use Rattle.sheet.specs.Accepted.{lengthOf, sizeFine, isOperand, mayHold, fieldsFine, recordFine, padFine, layoutFine, answer}
+use Rattle.sheet.specs.Operations.{usesOf, lastOperation}
+use Rattle.sheet.specs.Accepted.{lengthOf, sizeFine, isOperand, mayHold, fieldsFine, recordFine, padFine, layoutFine, answer, operandBase}
 use Rattle.sheet.specs.declared.header.Header.{Header}
 use Rattle.sheet.specs.declared.header.Checked.the-variants.{Accepted, Refused}
 use Rattle.sheet.specs.declared.operations.Holds.{Holds}
@@ -61,19 +61,19 @@ module _ (c : Counts) (v : ℕ) where
   operand-linkage l = or-on _ _ (le-leb v (total c) l)
 
   module _ (above : total c < v) where
-    pub operand-between : v < 65536 → false ≡ isOperand c v
+    pub operand-between : v < operandBase → false ≡ isOperand c v
     unfolding isOperand
     operand-between l =
         or-off _ _ _ (lt-leb v (total c) above)
-        (or-off _ _ _ (ne-eqb v 65536 (λ e. omega arith)) (and-off _ _ (lt-leb 1 (v - 65536) (omega arith))))
+        (or-off _ _ _ (ne-eqb v operandBase (λ e. omega arith)) (and-off _ _ (lt-leb 1 (v - operandBase) (omega arith))))
 
-    pub operand-current : v ≡ 65536 → true ≡ isOperand c v
+    pub operand-current : v ≡ operandBase → true ≡ isOperand c v
     unfolding isOperand
-    operand-current e = or-off _ _ _ (lt-leb v (total c) above) (or-on _ _ (eq-eqb v 65536 e))
+    operand-current e = or-off _ _ _ (lt-leb v (total c) above) (or-on _ _ (eq-eqb v operandBase e))
 
-    pub operand-first : v ≢ 65536 → isHead c (v - 65536) ≡ isOperand c v
+    pub operand-first : v ≢ operandBase → isHead c (v - operandBase) ≡ isOperand c v
     unfolding isOperand
-    operand-first n = or-off _ _ _ (lt-leb v (total c) above) (or-off _ _ _ (ne-eqb v 65536 n) refl)
+    operand-first n = or-off _ _ _ (lt-leb v (total c) above) (or-off _ _ _ (ne-eqb v operandBase n) refl)
 
 -- ---- a record
 
@@ -117,11 +117,11 @@ module _ (h : Header) (q : Record) where
     operation-none l = and-on _ _ _ (le-leb _ _ n) (and-off _ _ (lt-leb _ _ l))
 
     module _ (o : 1 ≤ q .operation) where
-      pub operation-above : 13 < q .operation → false ≡ recordFine h q
+      pub operation-above : lastOperation < q .operation → false ≡ recordFine h q
       unfolding recordFine
       operation-above l = and-on _ _ _ (le-leb _ _ n) (and-on _ _ _ (le-leb _ _ o) (and-off _ _ (lt-leb _ _ l)))
 
-      module _ (p : q .operation ≤ 13) where
+      module _ (p : q .operation ≤ lastOperation) where
         pub clause-above : 6 < q .clause → false ≡ recordFine h q
         unfolding recordFine
         clause-above l =

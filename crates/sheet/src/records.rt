@@ -6,7 +6,7 @@ use words::u32_at;
 ghost use mathlib.Core.Path.{_≡_};
 ghost use Prim.Native.Nat.{_+_, _≤_};
 ghost use lib.ListN.{length};
-ghost use Rattle.sheet.specs.Sheet.{startOffset, startAt, recordOffset, recordFrom};
+ghost use Rattle.sheet.specs.Sheet.{startOffset, startAt, recordOffset, recordFrom, recordBytes};
 
 // A record's fields, t as a signed number.
 pub struct Record {
@@ -29,42 +29,42 @@ pub fn record_offset(processes: u32, r: u32) -> usize
 // ---- the fields of the record whose 24 bytes begin at i
 
 pub fn next_at(sheet: &[u8], i: usize) -> u32
-    requires { ⌜ i + 24 ≤ length (now sheet) ⌝ }
+    requires { ⌜ i + recordBytes ≤ length (now sheet) ⌝ }
     ensures { λ r. ⌜ r ≡ recordFrom (now (sheet .entry)) i .next ⌝ }
 {
     u32_at(sheet, i)
 }
 
 pub fn operation_at(sheet: &[u8], i: usize) -> u8
-    requires { ⌜ i + 24 ≤ length (now sheet) ⌝ }
+    requires { ⌜ i + recordBytes ≤ length (now sheet) ⌝ }
     ensures { λ r. ⌜ r ≡ recordFrom (now (sheet .entry)) i .operation ⌝ }
 {
     u8_at(sheet, i + 4)
 }
 
 pub fn clause_at(sheet: &[u8], i: usize) -> u8
-    requires { ⌜ i + 24 ≤ length (now sheet) ⌝ }
+    requires { ⌜ i + recordBytes ≤ length (now sheet) ⌝ }
     ensures { λ r. ⌜ r ≡ recordFrom (now (sheet .entry)) i .clause ⌝ }
 {
     u8_at(sheet, i + 5)
 }
 
 pub fn x_at(sheet: &[u8], i: usize) -> u32
-    requires { ⌜ i + 24 ≤ length (now sheet) ⌝ }
+    requires { ⌜ i + recordBytes ≤ length (now sheet) ⌝ }
     ensures { λ r. ⌜ r ≡ recordFrom (now (sheet .entry)) i .x ⌝ }
 {
     u32_at(sheet, i + 8)
 }
 
 pub fn y_at(sheet: &[u8], i: usize) -> u32
-    requires { ⌜ i + 24 ≤ length (now sheet) ⌝ }
+    requires { ⌜ i + recordBytes ≤ length (now sheet) ⌝ }
     ensures { λ r. ⌜ r ≡ recordFrom (now (sheet .entry)) i .y ⌝ }
 {
     u32_at(sheet, i + 12)
 }
 
 pub fn t_at(sheet: &[u8], i: usize) -> i64
-    requires { ⌜ i + 24 ≤ length (now sheet) ⌝ }
+    requires { ⌜ i + recordBytes ≤ length (now sheet) ⌝ }
     ensures { λ r. ⌜ r ≡ recordFrom (now (sheet .entry)) i .t ⌝ }
 {
     i64_at(sheet, i + 16)
@@ -72,7 +72,7 @@ pub fn t_at(sheet: &[u8], i: usize) -> i64
 
 // All of them.
 pub fn record_from(sheet: &[u8], i: usize) -> Record
-    requires { ⌜ i + 24 ≤ length (now sheet) ⌝ }
+    requires { ⌜ i + recordBytes ≤ length (now sheet) ⌝ }
     ensures { λ q. ⌜ q ≡ recordFrom (now (sheet .entry)) i ⌝ }
 {
     let next = next_at(sheet, i);

@@ -13,10 +13,11 @@ ghost use mathlib.Core.Path.{_≡_};
 ghost use Prim.Native.Nat.{_+_, _≤_};
 ghost use lib.ListN.{length};
 ghost use Rattle.sheet.specs.Accepted.{lengthOf, padFine, startsTo, layoutFine, recordsTo, checked};
+ghost use Rattle.sheet.specs.Sheet.{recordBytes};
 
 // The two bytes between a record's clause and its x.
 fn pad_fine(sheet: &[u8], i: usize) -> bool
-    requires { ⌜ i + 24 ≤ length (now sheet) ⌝ }
+    requires { ⌜ i + recordBytes ≤ length (now sheet) ⌝ }
     ensures { λ r. ⌜ r ≡ padFine (now (sheet .entry)) i ⌝ }
 {
     if u8_at(sheet, i + 6) != 0 {

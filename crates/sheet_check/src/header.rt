@@ -10,7 +10,7 @@ ghost use mathlib.Core.Path.{_≡_};
 ghost use Prim.Native.Nat.{_≤_};
 ghost use lib.ListN.{length};
 ghost use Rattle.model.specs.Counts.{madeOf};
-ghost use Rattle.sheet.specs.Sheet.{countsOf};
+ghost use Rattle.sheet.specs.Sheet.{countsOf, headerBytes};
 ghost use Rattle.sheet.specs.Accepted.{answer, sizeFine, sized, headerOf};
 
 // The most records that a sheet has.
@@ -31,7 +31,7 @@ fn sized(sheet: &[u8], header: Header) -> Checked
 
 // The counts, if they are within their limits.
 fn counts_of(sheet: &[u8]) -> CountsMade
-    requires { ⌜ 16 ≤ length (now sheet) ⌝ }
+    requires { ⌜ headerBytes ≤ length (now sheet) ⌝ }
     ensures { λ r. ⌜ r ≡ madeOf (countsOf (now (sheet .entry))) ⌝ }
 {
     Counts::new(u32_at(sheet, 0), u32_at(sheet, 4), u32_at(sheet, 8))

@@ -3,7 +3,7 @@ use sheet::operations::Holds;
 use sheet::operations::Uses;
 ghost use mathlib.Core.Path.{_≡_};
 ghost use Prim.Native.Nat.{_≤_};
-ghost use Rattle.sheet.specs.Operations.{rowOf, usesOf};
+ghost use Rattle.sheet.specs.Operations.{rowOf, usesOf, lastOperation};
 
 // A row for each operation, 1 to 13.
 const OPERATIONS: [Uses; 13] = [
@@ -103,7 +103,7 @@ const OPERATIONS: [Uses; 13] = [
 // The table's row of an operation.
 fn row_of(operation: u8) -> Uses
     requires { ⌜ 1 ≤ operation ⌝ }
-    requires { ⌜ operation ≤ 13 ⌝ }
+    requires { ⌜ operation ≤ lastOperation ⌝ }
     ensures { λ r. ⌜ r ≡ rowOf operation ⌝ }
 {
     let i = (operation - 1) as usize;
@@ -113,7 +113,7 @@ fn row_of(operation: u8) -> Uses
 // The fields that a record of this operation and clause uses.
 pub(crate) fn uses_of(operation: u8, clause: u8) -> Uses
     requires { ⌜ 1 ≤ operation ⌝ }
-    requires { ⌜ operation ≤ 13 ⌝ }
+    requires { ⌜ operation ≤ lastOperation ⌝ }
     ensures { λ r. ⌜ r ≡ usesOf operation clause ⌝ }
 {
     let row = row_of(operation);
