@@ -1,18 +1,22 @@
--- A piece of a run: one call with the first bytes of the trace buffer. What it leaves, and what the program needs of that.
-use Prim.Native.Nat.{ℕ, _*_, _≤_, _<_}
+-- A piece of a run: one call with the first bytes of the trace buffer. What it leaves, and what the program needs of that; and how long a
+-- number is.
+use Prim.Native.Nat.{ℕ, zero, suc, _*_, _-_, _^_, _≤_, _<_}
 use mathlib.Core.Path.{_≡_, refl, sym, ap, subst}
 use mathlib.Core.List.{List}
+use native.Mathlib.Numerals.{unary-clauses}
 use native.Mathlib.Omega.{arith}
 use lib.ListN.{length, take}
 use lib.Seq.{length-take-le}
+use Rattle.ring_laws.specs.Lists.{below}
 use Rattle.model.specs.declared.Counts.{Counts}
 use Rattle.model_laws.specs.Now.{half, firstOf}
 use Rattle.simulation_laws.specs.Promise.{Judged}
+use Rattle.machine.specs.Run.{lineSize}
 use Rattle.run_laws.specs.declared.Ran.{Ran}
 use Rattle.run_laws.specs.Run.{RunTables, RanOn, runOn}
 use Rattle.run_laws.specs.Standing.{Standing, its-judged, in-positions}
 use Rattle.run_laws.specs.GoesOn.{run-stands, run-room}
-use Rattle.machine.specs.Run.{lineSize}
+use Rattle.io.specs.Digits.{Fewest}
 
 -- the tables and the answer
 pub record Left : Type 0 where
@@ -56,3 +60,22 @@ stands-located c bytes u s =
       judged = its-judged c bytes u s;
       first-in = in-positions c bytes u s (firstOf (half c) (u .model .axis)) refl;
     }
+
+-- ---- a number of 64 bits has at most 20 digits
+
+above : (m : ℕ) → 20 ≤ m → 18446744073709551616 ≤ 10 ^ m
+above zero h = omega arith
+above (suc m) h =
+    let e : 10 ^ suc m ≡ 10 * 10 ^ m = simp unary-clauses (omega arith) in
+    below 19 m
+    (λ l. omega (arith, e, above m l))
+    (λ l. let q : 19 ≡ m = omega arith in subst (λ (k : ℕ). 18446744073709551616 ≤ 10 ^ suc k) q (omega arith))
+
+pub few-digits : (n k : ℕ) → n < 18446744073709551616 → Fewest 10 1 n k → k ≤ 20
+few-digits n k s f =
+    below 20 k
+    (λ l. absurd (no (f .2 (omega arith)) (above (k - 1) (omega arith))))
+    (λ l. l)
+  where
+    no : 10 ^ (k - 1) ≤ n → 18446744073709551616 ≤ 10 ^ (k - 1) → ⊥
+    no a b = omega arith

@@ -41,15 +41,11 @@ pub(crate) fn put_text(out: &mut [u8; 4096], at: usize, text: &[u8]) -> usize
     at + i
 }
 
-// The digits of a number, and how many: at most 20, which is tested here, since the library promises only the fewest that will do.
+// The digits of a number; answers how many.
 fn digits(n: u64, text: &mut [u8; 20]) -> usize
     ensures { λ r. ⌜ r ≤ 20 ⌝ }
 {
-    let k = io::decimal(n, text);
-    if k <= 20 {
-        return k;
-    }
-    20
+    io::decimal(n, text)
 }
 
 // A number and a byte behind it at `at`; answers the place behind them.
