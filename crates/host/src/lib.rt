@@ -5,6 +5,8 @@ use crate::start::start;
 use model::Refusal;
 use ring::wide;
 use run::answer::number;
+use run_laws::RUN_WORDS;
+use run_laws::TRACE_LIMIT;
 use sheet::header::Checked;
 use sheet_check::check::check;
 ghost use mathlib.Core.Path.{_≡_};
@@ -29,12 +31,12 @@ pub extern "C" fn nodbrize_run(sheet: &[u8], trace: &mut [u8]) -> u64
     let mut times = [0u64; 1025];
     let mut marks = [0u8; 1025];
     let mut positions = [0u32; 1025];
-    let mut accums = [0i64; 192];
+    let mut accums = [0i64; RUN_WORDS];
     let read = check(sheet);
     match read {
         Checked::Refused(q) => refused(q),
         Checked::Accepted(header) => {
-            if 65536 < trace.len() {
+            if TRACE_LIMIT < trace.len() {
                 return refused(Refusal::Size);
             }
             let c = header.counts;

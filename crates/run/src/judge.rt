@@ -6,14 +6,10 @@ use model::verdict::Verdict;
 use model_judge::judge_tables;
 use model_judge::lengths_fine;
 use ring::wide;
+use run_laws::RUN_WORDS;
+use run_laws::TRACE_LIMIT;
 ghost use mathlib.Core.Path.{_≡_};
 ghost use Rattle.run_laws.specs.Run.{lent, runJudged};
-
-// 64 accumulators of three words.
-const WORDS: usize = 192;
-
-// The longest trace.
-const TRACE_LIMIT: usize = 65536;
 
 pub(crate) fn judge_run(
     c: Counts,
@@ -35,7 +31,7 @@ pub(crate) fn judge_run(
     if positions.len() != wide(c.processes) + 1 {
         return Verdict::Refused(Refusal::Size);
     }
-    if accums.len() != WORDS {
+    if accums.len() != RUN_WORDS {
         return Verdict::Refused(Refusal::Size);
     }
     if TRACE_LIMIT < len {

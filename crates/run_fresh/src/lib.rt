@@ -3,6 +3,7 @@ use model::Refusal;
 use model::verdict::Verdict;
 use model_fresh::fresh;
 use ring::wide;
+use run_laws::RUN_WORDS;
 use sheet::header::Header;
 use sheet::records::start_at;
 ghost use mathlib.Core.Path.{_≡_};
@@ -59,7 +60,7 @@ pub fn fill(
     if positions.len() != wide(c.processes) + 1 {
         return Verdict::Refused(Refusal::Size);
     }
-    if accums.len() != 192 {
+    if accums.len() != RUN_WORDS {
         return Verdict::Refused(Refusal::Size);
     }
     let v = fresh(c, links, axis, times, marks);

@@ -4,24 +4,26 @@ use Prim.Native.Nat.{ℕ, _≤_}
 use mathlib.Core.Path.{_≡_, refl, sym, ap, _∙_, subst}
 use mathlib.Core.Logic.{_≢_}
 use mathlib.Core.Bool.{Bool, true, false, not, _&&_, _||_}
-use mathlib.Core.List.{List}
-use lib.Dec.{eqb}
+use mathlib.Core.List.{List, [], _∷_}
+use lib.Dec.{eqb, leb}
 use lib.IntN.{ℤ}
-use borrow.Author.Tests.{ne-eqb}
+use borrow.Author.Tests.{ne-eqb, eqb-true, leb-true, not-true}
 use Rattle.ring_laws.specs.Lists.{if_then_else_, test, clash}
+use Rattle.ring_laws.specs.Tabulate.{has}
 use Rattle.model.specs.declared.Counts.{Counts}
+use Rattle.model.specs.Counts.{both}
 use Rattle.model.specs.declared.answer.Answer.{Answer}
 use Rattle.model.specs.declared.answer.Answer.the-variants.{Done, Linkage, Number, Truth, Refused as NotDone}
 use Rattle.model_laws.specs.Tables.{Tables}
 use Rattle.simset_laws.specs.Procedures.{emptyOf}
 use Rattle.sheet.specs.declared.records.Record.{Record}
 use Rattle.sheet.specs.Operations.{lastOperation}
+use Rattle.sheet.specs.AllTo.{allTo, all-at}
 use Rattle.machine.specs.Calls.{Call}
 use Rattle.run_laws.specs.OnTables.{carriedOut}
 use Rattle.run_laws.specs.declared.Effect.{Effect}
 use Rattle.run_laws.specs.declared.Effect.the-variants.{Stays, Jumps, Moves, Refused, Apart}
 use Rattle.run_laws.specs.Run.{resolved, callDue}
-use Rattle.run_laws.specs.Which.{the-rest}
 use Rattle.run_laws.specs.Performed.{callEffect, stays-or-moves, effectOf, unlessRefused, Performed, performed}
 
 -- out, into, hold, wait, if-empty and accum are made in a stretch,
@@ -63,13 +65,39 @@ module _ (q : Record) where
   apart-other o e a b c d f g h =
       rw (← e, ne-eqb o 1 a, ne-eqb o 4 b, ne-eqb o 6 c, ne-eqb o 8 d, ne-eqb o 10 f, ne-eqb o 12 g, ne-eqb o 13 h)
 
-  -- past the arms of those that are made apart, 10 and 11 are left
-  pub left-apart : (o : ℕ) → o ≡ q .operation → apart q ≡ true → 1 ≤ o → o ≤ lastOperation → o ≢ 2 → o ≢ 3 → o ≢ 5 → o ≢ 7 → o ≢ 9 → (10 ≤ o) × (o ≤ 11)
-  left-apart o is a lo hi n2 n3 n5 n7 n9 =
-      the-rest o lo hi (no 1 (here 1 refl refl)) n2 n3 (no 4 (here 4 refl refl)) n5 (no 6 (here 6 refl refl)) n7 (no 8 (here 8 refl refl)) n9 (no 12 (here 12 refl refl)) (no 13 (here 13 refl refl))
-    where
-      no : (k : ℕ) → (q .operation ≡ k → apart q ≡ false) → o ≢ k
-      no k h e = let z : true ≡ false = sym a ∙ h (sym is ∙ e) in clash (sym z)
+  no-here : apart q ≡ true → madeHere (q .operation) ≡ false
+  unfolding apart
+  no-here a =
+      test (eqb (q .operation) 10)
+      (λ e. ap madeHere (eqb-true (q .operation) 10 e))
+      (λ e. not-true (madeHere (q .operation)) (rw e at a))
+
+-- of all operations, past those that are made in a stretch and the arms of those that are made apart, 10 and 11 are left
+abbrev armsApart : List ℕ
+armsApart = 2 ∷ 3 ∷ 5 ∷ 7 ∷ 9 ∷ []
+
+abbrev covered : ℕ → Bool
+covered o = madeHere o || (has o armsApart || (leb 10 o && leb o 11))
+
+all-covered : allTo covered lastOperation ≡ true
+unfolding allTo
+all-covered = refl
+
+pub left-apart : (q : Record) (o : ℕ) → o ≡ q .operation → apart q ≡ true → 1 ≤ o → o ≤ lastOperation → o ≢ 2 → o ≢ 3 → o ≢ 5 → o ≢ 7 → o ≢ 9
+    → (10 ≤ o) × (o ≤ 11)
+left-apart q o is a lo hi n2 n3 n5 n7 n9 =
+    let here-not : madeHere o ≡ false = ap madeHere is ∙ no-here q a in
+    let none : has o armsApart ≡ false =
+    rw (other 2 n2, other 3 n3, other 5 n5, other 7 n7, other 9 n9) refl in
+    let l : (leb 10 o && leb o 11) ≡ true = last (all-at covered lastOperation all-covered o lo hi) here-not none in
+    let p = both (leb 10 o) (leb o 11) l in
+    (leb-true 10 o (p .0), leb-true o 11 (p .1))
+  where
+    other : (k : ℕ) → o ≢ k → eqb k o ≡ false
+    other k n = ne-eqb k o (λ e. n (sym e))
+
+    last : {a b c : Bool} → (a || (b || c)) ≡ true → a ≡ false → b ≡ false → c ≡ true
+    last e f g = rw (f, g) at e
 
 -- ---- what was tried
 

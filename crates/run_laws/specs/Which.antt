@@ -1,5 +1,5 @@
 -- Which call a record's operation is, with its operands resolved.
-use Prim.Native.Nat.{ℕ, _+_, _≤_}
+use Prim.Native.Nat.{ℕ, _≤_}
 use mathlib.Core.Path.{_≡_, sym, _∙_}
 use mathlib.Core.Logic.{_≢_}
 use mathlib.Core.List.{List}
@@ -86,14 +86,3 @@ module _ (c : Counts) (links : List ℕ) (f : ℕ) (q : Record) where
   pub call-13 : q .operation ≡ 13 → q .x ≤ 64 → due ≡ accum (q .x) (q .t)
   unfolding callOf operandWith
   call-13 e l = some 13 e (λ z. omega arith) ∙ (rw (e, lt-ltb (q .x) operandBase (omega arith)))
-
--- past 9, without 12 and 13
-past : (n k : ℕ) → k ≤ n → n ≢ k → k + 1 ≤ n
-past n k l d = omega arith
-
-pub the-rest : (n : ℕ) → 1 ≤ n → n ≤ 13 → n ≢ 1 → n ≢ 2 → n ≢ 3 → n ≢ 4 → n ≢ 5 → n ≢ 6 → n ≢ 7 → n ≢ 8 → n ≢ 9 → n ≢ 12 → n ≢ 13 → (10 ≤ n) × (n ≤ 11)
-the-rest n s l b c d e f g h i j k m =
-    (past n 9 (past n 8 (past n 7 (past n 6 (past n 5 (past n 4 (past n 3 (past n 2 (past n 1 s b) c) d) e) f) g) h) i) j, most n l k m)
-  where
-    most : (n : ℕ) → n ≤ 13 → n ≢ 12 → n ≢ 13 → n ≤ 11
-    most n l k m = omega arith

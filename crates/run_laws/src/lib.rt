@@ -3,6 +3,12 @@
 use machine::End;
 use model::Refusal;
 
+// The words of a run's 64 accumulators, three for each.
+pub const RUN_WORDS: usize = 192;
+
+// The longest trace, in bytes.
+pub const TRACE_LIMIT: usize = 65536;
+
 // What a run call answers: how many lines it wrote, and how it ended.
 pub struct Ran {
     pub lines: u32,

@@ -4,6 +4,7 @@ use crate::output::put_count;
 use crate::output::put_number;
 use run::run;
 use run_laws::Ran;
+use trace::LINE_BYTES;
 use words::u32_at;
 use words::u64_at;
 ghost use mathlib.Core.Path.{_≡_};
@@ -67,7 +68,7 @@ pub(crate) fn put_lines(out: &mut [u8; 4096], start: usize, trace: &[u8], n: u32
     while k < n {
         let free = flushed(out, at);
         at = put_line(out, free, trace, i);
-        i += 16;
+        i += LINE_BYTES;
         k += 1;
     }
     at

@@ -11,6 +11,8 @@ use model::Counts;
 use model::Refusal;
 use ring::wide;
 use run::fresh::fresh_run;
+use run_laws::RUN_WORDS;
+use run_laws::TRACE_LIMIT;
 use run_step::reading::place_now;
 use run_step::reading::record_of;
 use sheet::header::Header;
@@ -36,7 +38,7 @@ fn room(i: usize) -> usize
     ensures { λ r. ⌜ r ≤ traceLimit ⌝ }
 {
     if i < WHOLE {
-        return 65536;
+        return TRACE_LIMIT;
     }
     9216
 }
@@ -137,8 +139,8 @@ pub(crate) fn show(header: Header, sheet: &[u8])
     let mut times = [0u64; 1025];
     let mut marks = [0u8; 1025];
     let mut positions = [0u32; 1025];
-    let mut accums = [0i64; 192];
-    let mut trace = [0u8; 65536];
+    let mut accums = [0i64; RUN_WORDS];
+    let mut trace = [0u8; TRACE_LIMIT];
     on_tables(
         header,
         sheet,

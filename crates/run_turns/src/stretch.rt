@@ -14,6 +14,7 @@ use run_step::reading::position;
 use run_step::reading::record_of;
 use run_step::reading::time_of;
 use run_step::write;
+use trace::LINE_BYTES;
 ghost use Prim.Native.Nat.{_-_, _/_, _≤_};
 ghost use lib.ListN.{length};
 ghost use Rattle.run_laws.specs.Run.{lent, turnsOn};
@@ -41,8 +42,8 @@ pub(crate) fn stretch(
         (turnsOn c (now (sheet .entry)) lines (length (now (trace .entry)) / lineSize - lines) (lent (now (links .entry)) (now (axis .entry)) (now (times .entry)) (now (marks .entry)) (now (positions .entry)) (now (accums .entry))) (now (trace .entry)))
         (now (trace .entry)) (lent (now (links .exit)) (now (axis .exit)) (now (times .exit)) (now (marks .exit)) (now (positions .exit)) (now (accums .exit))) (now (trace .exit)) s ⌝ }
 {
-    let end = 16 * (trace.len() / 16);
-    let mut at = 16 * lines;
+    let end = LINE_BYTES * (trace.len() / LINE_BYTES);
+    let mut at = LINE_BYTES * lines;
     let mut f = place_now(c, axis);
     let mut time = time_of(times, f);
     let mut r = record_of(positions, f);
@@ -51,12 +52,12 @@ pub(crate) fn stretch(
             Effect::Stays => {
                 write(c, trace, f, time, r, at);
                 r = next_of(sheet, c.processes, r);
-                at += 16;
+                at += LINE_BYTES;
             }
             Effect::Jumps(y) => {
                 write(c, trace, f, time, r, at);
                 r = y;
-                at += 16;
+                at += LINE_BYTES;
             }
             Effect::Moves => {
                 let next = next_of(sheet, c.processes, r);
@@ -65,19 +66,19 @@ pub(crate) fn stretch(
                 r = position(positions, g, f, next);
                 time = time_of(times, g);
                 f = g;
-                at += 16;
+                at += LINE_BYTES;
             }
             Effect::Apart => {
                 place(positions, f, r);
                 return Stretch {
-                    lines: at / 16,
+                    lines: at / LINE_BYTES,
                     pause: Pause::Apart,
                 };
             }
             Effect::Refused(q) => {
                 place(positions, f, r);
                 return Stretch {
-                    lines: at / 16,
+                    lines: at / LINE_BYTES,
                     pause: Pause::Refused(q),
                 };
             }
@@ -85,7 +86,7 @@ pub(crate) fn stretch(
     }
     place(positions, f, r);
     Stretch {
-        lines: at / 16,
+        lines: at / LINE_BYTES,
         pause: Pause::Full,
     }
 }

@@ -10,6 +10,7 @@ use run_laws::Turn;
 use run_step::reading::is_end;
 use run_step::reading::place_now;
 use run_step::reading::record_of;
+use trace::LINE_BYTES;
 ghost use mathlib.Core.Path.{_≡_};
 ghost use Prim.Native.Nat.{_/_, _≤_};
 ghost use lib.ListN.{length};
@@ -41,7 +42,7 @@ pub fn turns(
     ensures { λ r. ⌜ record { run = lent (now (links .exit)) (now (axis .exit)) (now (times .exit)) (now (marks .exit)) (now (positions .exit)) (now (accums .exit)); trace = now (trace .exit); result = r }
         ≡ turnsOn c (now (sheet .entry)) 0 (length (now (trace .entry)) / 16) (lent (now (links .entry)) (now (axis .entry)) (now (times .entry)) (now (marks .entry)) (now (positions .entry)) (now (accums .entry))) (now (trace .entry)) ⌝ }
 {
-    let room = trace.len() / 16;
+    let room = trace.len() / LINE_BYTES;
     let mut n = 0;
     while n < room {
         let s = stretch(
@@ -76,7 +77,7 @@ pub fn turns(
                 positions,
                 accums,
                 trace,
-                16 * n,
+                LINE_BYTES * n,
             ) {
                 Turn::Finished => {
                     return Ran {

@@ -8,6 +8,11 @@ ghost use Prim.Native.Nat.{_+_, _≤_};
 ghost use lib.ListN.{length};
 ghost use Rattle.sheet.specs.Sheet.{startOffset, startAt, recordOffset, recordFrom, recordBytes};
 
+// Bytes of the header, and of a record.
+pub const HEADER_BYTES: usize = 16;
+
+pub const RECORD_BYTES: usize = 24;
+
 // A record's fields, t as a signed number.
 pub struct Record {
     pub next: u32,
@@ -23,7 +28,7 @@ pub fn record_offset(processes: u32, r: u32) -> usize
     requires { ⌜ 1 ≤ r ⌝ }
     ensures { λ i. ⌜ i ≡ recordOffset processes r ⌝ }
 {
-    16 + 4 * wide(processes) + 24 * (wide(r) - 1)
+    HEADER_BYTES + 4 * wide(processes) + RECORD_BYTES * (wide(r) - 1)
 }
 
 // ---- the fields of the record whose 24 bytes begin at i
@@ -97,5 +102,5 @@ pub fn start_at(sheet: &[u8], p: usize) -> u32
     requires { ⌜ startOffset p + 4 ≤ length (now sheet) ⌝ }
     ensures { λ r. ⌜ r ≡ startAt (now (sheet .entry)) p ⌝ }
 {
-    u32_at(sheet, 16 + 4 * (p - 1))
+    u32_at(sheet, HEADER_BYTES + 4 * (p - 1))
 }

@@ -5,6 +5,8 @@ use model::Refusal;
 use ring::wide;
 use sheet::header::Checked;
 use sheet::header::Header;
+use sheet::records::HEADER_BYTES;
+use sheet::records::RECORD_BYTES;
 use words::u32_at;
 ghost use mathlib.Core.Path.{_≡_};
 ghost use Prim.Native.Nat.{_≤_};
@@ -23,7 +25,8 @@ fn sized(sheet: &[u8], header: Header) -> Checked
     if MAX_RECORDS < header.records {
         return Checked::Refused(Refusal::Layout);
     }
-    if sheet.len() != 16 + 4 * wide(header.counts.processes) + 24 * wide(header.records) {
+    let starts = 4 * wide(header.counts.processes);
+    if sheet.len() != HEADER_BYTES + starts + RECORD_BYTES * wide(header.records) {
         return Checked::Refused(Refusal::Layout);
     }
     Checked::Accepted(header)
@@ -41,7 +44,7 @@ fn counts_of(sheet: &[u8]) -> CountsMade
 pub(crate) fn read_header(sheet: &[u8]) -> Checked
     ensures { λ r. ⌜ r ≡ answer (sized (now (sheet .entry))) (headerOf (now (sheet .entry))) ⌝ }
 {
-    if sheet.len() < 16 {
+    if sheet.len() < HEADER_BYTES {
         return Checked::Refused(Refusal::Layout);
     }
     let made = counts_of(sheet);

@@ -5,6 +5,9 @@ ghost use Prim.Native.Nat.{_+_, _≤_};
 ghost use lib.ListN.{length};
 ghost use Rattle.trace.specs.Lines.{put, bytes4, bytes8, lineBytes};
 
+// Bytes of a line.
+pub const LINE_BYTES: usize = 16;
+
 // The four bytes of x at i, the lowest first.
 fn put_u32(s: &mut [u8], i: usize, x: u32)
     requires { ⌜ i + 4 ≤ length (now s) ⌝ }
