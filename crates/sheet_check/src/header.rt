@@ -25,8 +25,9 @@ fn sized(sheet: &[u8], header: Header) -> Checked
     if MAX_RECORDS < header.records {
         return Checked::Refused(Refusal::Layout);
     }
-    let starts = 4 * wide(header.counts.processes);
-    if sheet.len() != HEADER_BYTES + starts + RECORD_BYTES * wide(header.records) {
+    if sheet.len()
+        != HEADER_BYTES + 4 * wide(header.counts.processes) + RECORD_BYTES * wide(header.records)
+    {
         return Checked::Refused(Refusal::Layout);
     }
     Checked::Accepted(header)
