@@ -12,8 +12,24 @@ run-in-requires c κs = search needs
 wide-requires : tie.Need-wide-requires
 wide-requires c κs = search needs
 
+-- The places that the answers look back to: `search` finds each by its type.
+abbrev after-run-in : tie.After-run-in → tie.After-run-in
+after-run-in x = x
+
+abbrev after-answer : tie.After-answer → tie.After-answer
+after-answer x = x
+
+abbrev start-from-trace : tie.After-trace → tie.Start
+start-from-trace x = x .before .before .before .before .before .before .before .before .before .before .before .before .before .before .before .before .before .before .before .before .before .before .before .before .before .before .before .before .before
+
+abbrev model-in-from-trace : tie.After-trace → tie.After-model-in
+model-in-from-trace x = x .before .before .before .before .before .before .before .before .before .before .before .before .before .before .before .before
+
+abbrev run-in-from-trace : tie.After-trace → tie.After-run-in
+run-in-from-trace x = x .before .before .before .before
+
 add-end : tie.Need-add-end
-add-end c = omega (arith, c .before .before .before .before .before .before .run-in .ensures, c .wide .ensures, c .before .before .before .before .before .before .before .before .before .before .before .before .before .before .before .before .before .before .before .before .before .before .before .before .before .before .before .before .before .before .before .good .1 .0 .0)
+add-end c = omega (arith, after-run-in (search) .run-in .ensures, c .wide .ensures, start-from-trace (search) .good .1 .0 .0)
 
 sub-answer : tie.Need-sub-answer
 sub-answer c = search needs
@@ -28,25 +44,25 @@ answer-requires : tie.Need-answer-requires
 answer-requires c κs = search needs
 
 same-length : tie.Need-same-length
-same-length c = omega (arith, c .before .before .before .before .before .before .before .before .before .before .before .before .before .before .before .before .before .before .before .before .before .before .before .before .before .before .before .before .before .before .before .before .before .before .before .before .before .before .before .before .model-in .kept, c .before .before .before .before .before .before .before .before .before .before .before .before .before .answer .kept)
+same-length c = omega (arith, model-in-from-trace (search) .model-in .kept, after-answer (search) .answer .kept)
 
 same-length-2 : tie.Need-same-length-2
-same-length-2 c = omega (arith, c .before .before .before .before .before .before .before .before .before .before .before .before .before .before .before .before .before .before .before .before .before .before .before .before .before .before .before .before .before .before .before .before .before .before .before .before .before .before .before .before .model-in .kept, c .before .before .before .before .before .before .before .before .before .before .before .before .before .answer .kept)
+same-length-2 c = omega (arith, model-in-from-trace (search) .model-in .kept, after-answer (search) .answer .kept)
 
 same-length-3 : tie.Need-same-length-3
-same-length-3 c = omega (arith, c .before .before .before .before .before .before .before .before .before .before .before .before .before .before .before .before .before .before .before .before .before .before .before .before .before .before .before .before .before .before .before .before .before .before .before .before .before .before .before .before .model-in .kept, c .before .before .before .before .before .before .before .before .before .before .before .before .before .answer .kept)
+same-length-3 c = omega (arith, model-in-from-trace (search) .model-in .kept, after-answer (search) .answer .kept)
 
 same-length-4 : tie.Need-same-length-4
-same-length-4 c = omega (arith, c .before .before .before .before .before .before .before .before .before .before .before .before .before .before .before .before .before .before .before .before .before .before .before .before .before .before .before .before .before .before .before .before .before .before .before .before .before .before .before .before .model-in .kept, c .before .before .before .before .before .before .before .before .before .before .before .before .before .answer .kept)
+same-length-4 c = omega (arith, model-in-from-trace (search) .model-in .kept, after-answer (search) .answer .kept)
 
 same-length-5 : tie.Need-same-length-5
-same-length-5 c = omega (arith, c .before .before .before .before .before .before .before .before .before .before .before .before .before .before .before .before .before .before .before .before .before .before .before .before .before .before .before .before .run-in .kept, c .before .before .before .before .before .before .before .before .before .before .before .before .before .answer .kept)
+same-length-5 c = omega (arith, run-in-from-trace (search) .run-in .kept, after-answer (search) .answer .kept)
 
 same-length-6 : tie.Need-same-length-6
-same-length-6 c = omega (arith, c .before .before .before .before .before .before .before .before .before .before .before .before .before .before .before .before .before .before .before .before .before .before .before .before .before .before .before .before .run-in .kept, c .before .before .before .before .before .before .before .before .before .before .before .before .before .answer .kept)
+same-length-6 c = omega (arith, run-in-from-trace (search) .run-in .kept, after-answer (search) .answer .kept)
 
 same-length-7 : tie.Need-same-length-7
-same-length-7 c = omega (arith, c .before .before .before .before .before .before .before .before .before .before .before .before .before .before .before .before .before .before .before .before .before .before .before .before .before .before .before .before .run-in .kept, c .before .before .before .before .before .before .before .before .before .before .before .before .before .answer .kept)
+same-length-7 c = omega (arith, run-in-from-trace (search) .run-in .kept, after-answer (search) .answer .kept)
 
 returns : tie.Need-returns
 returns c = search needs

@@ -6,8 +6,15 @@ use Rattle.calls.proofs.respond.exchange.Tie as tie
 call-on-requires : tie.Need-call-on-requires
 call-on-requires c κs = search needs
 
+-- The places that the answers look back to: `search` finds each by its type.
+abbrev after-call-on : tie.After-call-on → tie.After-call-on
+after-call-on x = x
+
+abbrev start-from-call-on : tie.After-call-on → tie.Start
+start-from-call-on x = x .before .before .before .before .before .before .before .before .before .before .before .before .before .before .before .before .before
+
 response-out-requires : tie.Need-response-out-requires
-response-out-requires c κs = omega (arith, c .before .before .before .before .before .before .before .before .before .before .before .before .before .before .before .before .before .before .before .before .before .before .before .before .before .before .before .before .before .before .before .before .before .before .before .before .before .before .pre, c .before .before .before .before .before .before .before .before .before .before .before .before .before .before .before .before .before .before .before .before .before .call-on .kept)
+response-out-requires c κs = omega (arith, start-from-call-on (search) .pre, after-call-on (search) .call-on .kept)
 
 same-length : tie.Need-same-length
 same-length c = search needs

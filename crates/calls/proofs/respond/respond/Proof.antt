@@ -35,47 +35,72 @@ wide-requires-7 c κs = search needs
 array-borrow-prefix-links : tie.Need-array-borrow-prefix-links
 array-borrow-prefix-links c = search needs
 
+-- The places that the answers look back to: `search` finds each by its type.
+abbrev start : tie.Start → tie.Start
+start x = x
+
+abbrev after-wide : tie.After-wide → tie.After-wide
+after-wide x = x
+
+abbrev after-wide2 : tie.After-wide2 → tie.After-wide2
+after-wide2 x = x
+
+abbrev after-wide3 : tie.After-wide3 → tie.After-wide3
+after-wide3 x = x
+
+abbrev after-wide4 : tie.After-wide4 → tie.After-wide4
+after-wide4 x = x
+
+abbrev after-wide5 : tie.After-wide5 → tie.After-wide5
+after-wide5 x = x
+
+abbrev after-wide6 : tie.After-wide6 → tie.After-wide6
+after-wide6 x = x
+
+abbrev after-wide7 : tie.After-wide7 → tie.After-wide7
+after-wide7 x = x
+
 slice-aggregate-exchange : tie.Need-slice-aggregate-exchange
-slice-aggregate-exchange c = sym (part-length _ 8448 0 (omega (arith, c .before .before .before .before .before .before .before .before .before .before .before .before .pre)))
+slice-aggregate-exchange c = sym (part-length _ 8448 0 (omega (arith, start (search) .pre)))
 
 array-borrow-prefix-axis : tie.Need-array-borrow-prefix-axis
 array-borrow-prefix-axis c = search needs
 
 slice-aggregate-exchange-2 : tie.Need-slice-aggregate-exchange-2
-slice-aggregate-exchange-2 c = sym (part-length _ 4352 0 (omega (arith, c .before .before .before .before .before .before .before .before .before .before .before .before .before .pre)))
+slice-aggregate-exchange-2 c = sym (part-length _ 4352 0 (omega (arith, start (search) .pre)))
 
 array-borrow-prefix-times : tie.Need-array-borrow-prefix-times
 array-borrow-prefix-times c = search needs
 
 slice-aggregate-exchange-3 : tie.Need-slice-aggregate-exchange-3
-slice-aggregate-exchange-3 c = sym (part-length _ 1088 0 (omega (arith, c .before .before .before .before .before .before .before .before .before .before .before .before .before .before .pre)))
+slice-aggregate-exchange-3 c = sym (part-length _ 1088 0 (omega (arith, start (search) .pre)))
 
 array-borrow-prefix-marks : tie.Need-array-borrow-prefix-marks
 array-borrow-prefix-marks c = search needs
 
 slice-aggregate-exchange-4 : tie.Need-slice-aggregate-exchange-4
-slice-aggregate-exchange-4 c = sym (part-length _ 1088 0 (omega (arith, c .before .before .before .before .before .before .before .before .before .before .before .before .before .before .before .pre)))
+slice-aggregate-exchange-4 c = sym (part-length _ 1088 0 (omega (arith, start (search) .pre)))
 
 array-borrow-prefix-accums : tie.Need-array-borrow-prefix-accums
 array-borrow-prefix-accums c = search needs
 
 slice-aggregate-exchange-5 : tie.Need-slice-aggregate-exchange-5
-slice-aggregate-exchange-5 c = sym (part-length _ 240 (pos 0) (omega (arith, c .before .before .before .before .before .before .before .before .before .before .before .before .before .before .before .before .pre)))
+slice-aggregate-exchange-5 c = sym (part-length _ 240 (pos 0) (omega (arith, start (search) .pre)))
 
 array-borrow-prefix-positions : tie.Need-array-borrow-prefix-positions
 array-borrow-prefix-positions c = search needs
 
 slice-aggregate-exchange-6 : tie.Need-slice-aggregate-exchange-6
-slice-aggregate-exchange-6 c = sym (part-length _ 1088 0 (omega (arith, c .before .before .before .before .before .before .before .before .before .before .before .before .before .before .before .before .before .pre)))
+slice-aggregate-exchange-6 c = sym (part-length _ 1088 0 (omega (arith, start (search) .pre)))
 
 array-borrow-prefix-trace : tie.Need-array-borrow-prefix-trace
 array-borrow-prefix-trace c = search needs
 
 slice-aggregate-exchange-7 : tie.Need-slice-aggregate-exchange-7
-slice-aggregate-exchange-7 c = sym (part-length _ 66000 0 (omega (arith, c .before .before .before .before .before .before .before .before .before .before .before .before .before .before .before .before .before .before .pre)))
+slice-aggregate-exchange-7 c = sym (part-length _ 66000 0 (omega (arith, start (search) .pre)))
 
 exchange-requires : tie.Need-exchange-requires
-exchange-requires c κs = (c .before .before .before .before .before .before .before .before .before .before .before .before .before .before .before .before .before .before .pre .0, (c .before .before .before .before .before .before .before .before .before .before .before .before .before .before .before .before .before .before .pre .1 .0, (model-parts _ (c .before .before .before .before .before .before .before .before .before .before .before .before .before .before .before .before .before .before .pre .1 .1) _ _ _ _ (c .before .before .before .before .before .before .before .before .before .before .before .before .before .before .wide .ensures) (c .before .before .before .before .before .before .before .before .before .before .before .before .before .wide2 .ensures) (c .before .before .before .before .before .before .before .before .before .before .before .before .wide3 .ensures) (c .before .before .before .before .before .before .before .before .before .before .before .wide4 .ensures), run-parts _ (c .before .before .before .before .before .before .before .before .before .before .before .before .before .before .before .before .before .before .pre .1 .1) (3 * c .before .before .before .before .before .before .before .before .before .before .wide5 .result) _ _ (omega (arith, c .before .before .before .before .before .before .before .before .before .before .wide5 .ensures)) (c .before .before .before .before .before .before .before .before .before .wide6 .ensures) (c .before .before .before .before .before .before .before .before .wide7 .ensures))))
+exchange-requires c κs = (start (search) .pre .0, (start (search) .pre .1 .0, (model-parts _ (start (search) .pre .1 .1) _ _ _ _ (after-wide (search) .wide .ensures) (after-wide2 (search) .wide2 .ensures) (after-wide3 (search) .wide3 .ensures) (after-wide4 (search) .wide4 .ensures), run-parts _ (start (search) .pre .1 .1) (3 * after-wide5 (search) .wide5 .result) _ _ (omega (arith, after-wide5 (search) .wide5 .ensures)) (after-wide6 (search) .wide6 .ensures) (after-wide7 (search) .wide7 .ensures))))
 
 same-length : tie.Need-same-length
 same-length c = search needs
