@@ -1,9 +1,11 @@
-"""Writes docs/ARCHITECTURE.md from crates.txt: crates by level and family. With --check it only exits 1 if the page is out of date."""
+"""Draws crates.txt, crates by level and family, in docs/ARCHITECTURE.md and README.md. With --check it only exits 1 if one is out of date."""
 import pathlib
 import sys
 
 ROOT = pathlib.Path(__file__).resolve().parent.parent
 PAGE = ROOT / "docs" / "ARCHITECTURE.md"
+README = ROOT / "README.md"
+MARKS = ("<!-- docs/levels.py draws this -->\n", "<!-- to here -->")
 HOLDS = {
     "words": "little-endian words read from bytes",
     "trace": "the writer of trace lines",
@@ -29,7 +31,7 @@ lent, `_step`, `_turns`, `_fresh` and `_update` are parts of code; a family's ow
 """
 
 
-def page():
+def drawn():
     lines = [line.split("#")[0] for line in (ROOT / "crates.txt").read_text().splitlines()]
     built_on = {name.strip(): deps.split() for name, deps in (line.split(":") for line in lines if line.strip())}
     level = {}
@@ -51,9 +53,13 @@ def page():
             rows.append(str(n if i == 0 else "").rjust(5) + "  " + "  ".join(row))
     picture = "\n".join(row.rstrip() for row in rows)
     words = "\n".join(f"- `{f}`: {HOLDS.get(f, 'say in docs/levels.py what this family holds')}" for f in cells)
-    return f"{HEAD}\n```\n{picture}\n```\n\nWhat each family holds:\n\n{words}\n"
+    page = f"{HEAD}\n```\n{picture}\n```\n\nWhat each family holds:\n\n{words}\n"
+    before, rest = README.read_text().split(MARKS[0])
+    readme = f"{before}{MARKS[0]}```\n{picture}\n```\n{MARKS[1]}{rest.split(MARKS[1])[1]}"
+    return {PAGE: page, README: readme}
 
 
 if sys.argv[1:] == ["--check"]:
-    sys.exit(not PAGE.exists() or PAGE.read_text() != page())
-PAGE.write_text(page())
+    sys.exit(any(not file.exists() or file.read_text() != text for file, text in drawn().items()))
+for file, text in drawn().items():
+    file.write_text(text)
