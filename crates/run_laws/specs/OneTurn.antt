@@ -16,8 +16,9 @@ use Rattle.machine.specs.declared.End.the-variants.{Finished, Refused as Ended}
 use Rattle.machine.specs.Run.{lineSize}
 use Rattle.run_laws.specs.declared.Turn.{Turn}
 use Rattle.run_laws.specs.declared.Turn.the-variants.{Finished as AtEnd, Made, Refused as NotMade}
-use Rattle.run_laws.specs.Run.{RunTables, runOf, Turned, On, Off, Stepped, recordGot, stepOn, endsNow, TurnedOn, turnBy, turnOn, RanOn, stoppedOn}
+use Rattle.run_laws.specs.Run.{RunTables, runOf, Turned, On, Off, Stepped, recordGot, recordAtNow, stepOn, endsNow, TurnedOn, turnBy, turnOn, RanOn, stoppedOn}
 use Rattle.run_laws.specs.Performed.{Performed, performed, verdictBy, goesTo, turned-to, refused-of}
+use Rattle.run_laws.specs.Tried.{apart}
 use Rattle.run_laws.specs.Needs.{Performable}
 use Rattle.run_laws.specs.Reads.{ends-at}
 use Rattle.run_laws.specs.Standing.{Standing, its-step}
@@ -35,6 +36,10 @@ module _ (c : Counts) (bytes : List ℕ) (u : RunTables) (s : Standing c bytes u
   pub turn-callable : (time : ℕ) → time ≡ getD (u .model .times) f 0 → r ≢ 0
       → Performable c bytes (recordOffset (c .processes) r) f time (u .model) (u .words)
   turn-callable time et = its-step c bytes u s f ef r (at time et .record-is) time (at time et .time-is)
+
+  -- its call is the one that is due
+  pub turn-apart : apart (recordGot (c .processes) bytes (recordAtNow c u)) ≡ true → apart (recordGot (c .processes) bytes r) ≡ true
+  turn-apart a = ap (λ (j : ℕ). apart (recordGot (c .processes) bytes j)) (at (getD (u .model .times) f 0) refl .record-is) ∙ a
 
   module _ (i : ℕ) (tr : List ℕ) (b : Bool) (eb : b ≡ (eqb r 0 && eqb f 1)) where
     ends : b ≡ endsNow c (u .model .axis) (u .positions)

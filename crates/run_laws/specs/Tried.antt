@@ -1,7 +1,7 @@
 -- The calls that a stretch of turns makes itself, and those that are made apart. It is a matter of speed alone: what a call leaves is
 -- `performed` for all of them.
 use Prim.Native.Nat.{ℕ, _≤_}
-use mathlib.Core.Path.{_≡_, refl, sym, ap, _∙_, subst}
+use mathlib.Core.Path.{_≡_, refl, sym, ap, _∙_}
 use mathlib.Core.Logic.{_≢_}
 use mathlib.Core.Bool.{Bool, true, false, not, _&&_, _||_}
 use mathlib.Core.List.{List, [], _∷_}
@@ -155,10 +155,3 @@ module _ (c : Counts) (q : Record) (f : ℕ) (t : Tables) (w : List ℤ) where
         test (apart q)
         (λ a. (a, ap (λ (p : Performed). p .tables) (rw a at is), ap (λ (p : Performed). p .words) (rw a at is)))
         (λ a. let z : true ≡ false = sym e ∙ (rw a at told) ∙ made-here in clash (sym z))
-
-    -- so what held of the tables still does, and the call can be made on them
-    pub left-holds : (Q : Tables → Type 0) → isApart (o .effect) ≡ true → Q t → Q (o .tables)
-    left-holds Q e = subst Q (sym (left-of e .1))
-
-    pub left-made : isApart (o .effect) ≡ true → (p : Performed) → p ≡ performed c q f (o .tables) (o .words) → p ≡ performed c q f t w
-    left-made e p ep = let l = left-of e in ep ∙ ap (λ (k : Tables). performed c q f k (o .words)) (l .1) ∙ ap (performed c q f t) (l .2)

@@ -21,7 +21,7 @@ ghost use Rattle.model_laws.specs.Ready.{Ready};
 ghost use Rattle.sheet.specs.Sheet.{recordOffset, recordFrom};
 ghost use Rattle.run_laws.specs.Needs.{Callable};
 ghost use Rattle.run_laws.specs.Run.{recordGot};
-ghost use Rattle.run_laws.specs.Performed.{verdictBy, performed};
+ghost use Rattle.run_laws.specs.Performed.{verdictBy, goesTo, performed};
 ghost use Rattle.run_laws.specs.Tried.{apart};
 
 // Whether a call was refused.
@@ -34,6 +34,19 @@ pub fn verdict_of(e: Effect) -> Verdict
         Effect::Moves => Verdict::Fine,
         Effect::Refused(q) => Verdict::Refused(q),
         Effect::Apart => Verdict::Fine,
+    }
+}
+
+// Where the process is after an accepted call; next is its record's.
+pub fn goes_to(e: Effect, next: u32) -> u32
+    ensures { λ r. ⌜ r ≡ goesTo e next ⌝ }
+{
+    match e {
+        Effect::Stays => next,
+        Effect::Jumps(y) => y,
+        Effect::Moves => next,
+        Effect::Refused(_) => next,
+        Effect::Apart => next,
     }
 }
 

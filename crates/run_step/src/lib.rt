@@ -2,7 +2,6 @@
 // is written. Core functions: the caller knows that the tables were judged.
 pub mod apart;
 pub mod arms;
-pub mod either;
 pub mod perform;
 pub mod reading;
 

@@ -1,11 +1,11 @@
-// One turn on judged tables: main is at its end, or a step is made or turned down. The step's call may be any; then the process moves on and the
-// line is written.
+// One turn on judged tables, whose call no stretch makes: main is at its end, or the step is made or turned down; after a step that is made the
+// process is at its next record, and the line is written.
 use model::Counts;
 use model::verdict::Verdict;
 use run_laws::Turn;
+use run_step::apart::goes_to;
+use run_step::apart::perform_apart;
 use run_step::apart::verdict_of;
-use run_step::either::goes_to;
-use run_step::either::perform_either;
 use run_step::move_on;
 use run_step::reading::is_end;
 use run_step::reading::next_of;
@@ -13,14 +13,16 @@ use run_step::reading::place_now;
 use run_step::reading::record_of;
 use run_step::reading::time_of;
 ghost use mathlib.Core.Path.{_≡_};
+ghost use mathlib.Core.Bool.{true};
 ghost use Prim.Native.Nat.{_+_, _≤_};
 ghost use lib.ListN.{length};
-ghost use Rattle.run_laws.specs.Run.{lent, turnOn};
+ghost use Rattle.run_laws.specs.Run.{lent, recordGot, recordAtNow, turnOn};
 ghost use Rattle.run_laws.specs.Standing.{Standing};
+ghost use Rattle.run_laws.specs.Tried.{apart};
 ghost use Rattle.machine.specs.Run.{lineSize};
 
 // The line, if there is one, goes to byte i.
-pub fn turn(
+pub(crate) fn turn_apart(
     c: Counts,
     sheet: &[u8],
     links: &mut [u32],
@@ -28,12 +30,13 @@ pub fn turn(
     times: &mut [u64],
     marks: &mut [u8],
     positions: &mut [u32],
-    accums: &mut [i64],
+    accums: &[i64],
     trace: &mut [u8],
     i: usize,
 ) -> Turn
     requires { ⌜ Standing c (now sheet) (lent (now links) (now axis) (now times) (now marks) (now positions) (now accums)) ⌝ }
     requires { ⌜ i + lineSize ≤ length (now trace) ⌝ }
+    requires { ⌜ apart (recordGot (c .processes) (now sheet) (recordAtNow c (lent (now links) (now axis) (now times) (now marks) (now positions) (now accums)))) ≡ true ⌝ }
     ensures { λ r. ⌜ record { run = lent (now (links .exit)) (now (axis .exit)) (now (times .exit)) (now (marks .exit)) (now (positions .exit)) (now (accums .exit)); trace = now (trace .exit); turn = r }
         ≡ turnOn c (now (sheet .entry)) i (lent (now (links .entry)) (now (axis .entry)) (now (times .entry)) (now (marks .entry)) (now (positions .entry)) (now (accums .entry))) (now (trace .entry)) ⌝ }
 {
@@ -43,7 +46,7 @@ pub fn turn(
         return Turn::Finished;
     }
     let time = time_of(times, f);
-    let e = perform_either(c, sheet, r, f, time, links, axis, times, marks, accums);
+    let e = perform_apart(c, sheet, r, f, links, axis, times, marks);
     match verdict_of(e) {
         Verdict::Refused(q) => Turn::Refused(q),
         Verdict::Fine => {
