@@ -1,4 +1,4 @@
-// Accumulators: what an update does, by value, in a list and as a call, in specs/. The code is in `accum`.
+// Accumulators: what an update does, by value, in a list and as a call, in specs/. The code is in `accum_update` and `accum`.
 use model::Refusal;
 use model::answer::Answer;
 

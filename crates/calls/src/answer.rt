@@ -1,14 +1,79 @@
-// The calls by their numbers: the runs, and those of `calls_served`.
+// The calls by their numbers (docs/CALLS.md): those of SIMSET and SIMULATION are decoded to values, and each other group has a file with `has`,
+// which numbers it takes, and `answer`.
+use crate::accum_calls;
+use crate::decode;
+use crate::fresh_call;
+use crate::judge_call;
 use crate::run_calls;
+use crate::sheet_call;
 use calls_served::head::Head;
 use calls_served::reply::Reply;
+use calls_served::reply::answered;
+use simula::query;
+use simula::sequencing_call;
+use simula::set_call;
+
+// Is there such a call on a model?
+fn on_model(call: u32) -> bool {
+    if decode::is_set_call(call) {
+        return true;
+    }
+    if decode::is_sequencing_call(call) {
+        return true;
+    }
+    if decode::is_query(call) {
+        return true;
+    }
+    if accum_calls::has(call) {
+        return true;
+    }
+    if fresh_call::has(call) {
+        return true;
+    }
+    judge_call::has(call)
+}
 
 // Is there such a call?
 pub(crate) fn known(call: u32) -> bool {
     if run_calls::has(call) {
         return true;
     }
-    calls_served::answer::has(call)
+    if sheet_call::has(call) {
+        return true;
+    }
+    on_model(call)
+}
+
+// Makes such a call on a model's tables: a test for each group, and the last one takes what is left.
+fn answer_on_model(
+    head: Head,
+    links: &mut [u32],
+    axis: &mut [u32],
+    times: &mut [u64],
+    marks: &mut [u8],
+    accums: &mut [i64],
+) -> Reply {
+    let call = head.call;
+    let c = head.counts;
+    if decode::is_set_call(call) {
+        let k = decode::set_call_of(head);
+        return answered(set_call(c, links, axis, times, marks, k));
+    }
+    if decode::is_sequencing_call(call) {
+        let k = decode::sequencing_call_of(head);
+        return answered(sequencing_call(c, links, axis, times, marks, k));
+    }
+    if decode::is_query(call) {
+        let q = decode::query_of(head);
+        return answered(query(c, links, axis, times, marks, q));
+    }
+    if accum_calls::has(call) {
+        return accum_calls::answer(head, links, axis, times, marks, accums);
+    }
+    if fresh_call::has(call) {
+        return fresh_call::answer(head, links, axis, times, marks);
+    }
+    judge_call::answer(head, links, axis, times, marks)
 }
 
 // Makes a known call on the tables of its request.
@@ -37,5 +102,8 @@ pub(crate) fn answer(
             trace,
         );
     }
-    calls_served::answer::answer(head, links, axis, times, marks, accums, sheet)
+    if sheet_call::has(call) {
+        return sheet_call::answer(sheet);
+    }
+    answer_on_model(head, links, axis, times, marks, accums)
 }

@@ -1,9 +1,14 @@
 // A program for tests: reads requests, makes each call on the tables that a request brings, and writes a response for each.
+mod accum_calls;
 mod answer;
+mod decode;
 mod flow;
+mod fresh_call;
+mod judge_call;
 mod respond;
 mod run_calls;
 mod serve;
+mod sheet_call;
 
 use serve::serve;
 

@@ -7,6 +7,7 @@ ghost use Prim.Native.Nat.{_+_, _<_, _≤_};
 ghost use mathlib.Core.Path.{_≡_};
 ghost use mathlib.Core.Bool.{true};
 ghost use lib.ListN.{length};
+ghost use Rattle.calls_served.specs.Heads.{sizesAt, countsAt, headAt};
 ghost use Rattle.calls_served.specs.Contents.{modelBytes, runBytes, ModelFits, RunFits};
 
 // How many of each: words, bytes, and accumulators of three words.
@@ -35,6 +36,7 @@ pub const HEAD_BYTES: usize = 72;
 
 fn sizes_at(s: &[u8], at: usize) -> Sizes
     requires { ⌜ at + 32 ≤ length (now s) ⌝ }
+    ensures { λ r. ⌜ r ≡ sizesAt (now (s .entry)) at ⌝ }
 {
     Sizes {
         links: u32_at(s, at),
@@ -50,6 +52,7 @@ fn sizes_at(s: &[u8], at: usize) -> Sizes
 
 fn counts_at(s: &[u8], at: usize) -> Counts
     requires { ⌜ at + 12 ≤ length (now s) ⌝ }
+    ensures { λ r. ⌜ r ≡ countsAt (now (s .entry)) at ⌝ }
 {
     Counts {
         heads: u32_at(s, at),
@@ -60,6 +63,7 @@ fn counts_at(s: &[u8], at: usize) -> Counts
 
 pub fn head_at(s: &[u8], at: usize) -> Head
     requires { ⌜ at + 72 ≤ length (now s) ⌝ }
+    ensures { λ r. ⌜ r ≡ headAt (now (s .entry)) at ⌝ }
 {
     let counts = counts_at(s, at + 4);
     let t = i64_at(s, at + 32);

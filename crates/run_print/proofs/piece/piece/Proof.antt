@@ -8,8 +8,18 @@ use Rattle.run_print.proofs.piece.piece.Tie as tie
 slice-relend-prefix-run : tie.Need-slice-relend-prefix-run
 slice-relend-prefix-run c = search needs
 
+-- The places that the answers look back to: `search` finds each by its type.
+abbrev start : tie.Start → tie.Start
+start x = x
+
+abbrev after-run : tie.After-run → tie.After-run
+after-run x = x
+
+abbrev start-from-run : tie.After-run → tie.Start
+start-from-run x = x .before .before .before .before .before .before .before .before .before .before .before .before .before .before .before
+
 slice-aggregate-run : tie.Need-slice-aggregate-run
-slice-aggregate-run c = sym (length-take-le (c .before .before .before .before .before .before .before .before .before .before .before .before .before .before .args .k) (c .before .before .before .before .before .before .before .before .before .before .before .before .before .before .args .trace .now) (c .before .before .before .before .before .before .before .before .before .before .before .before .before .before .pre))
+slice-aggregate-run c = sym (length-take-le (start (search) .args .k) (start (search) .args .trace .now) (start (search) .pre))
 
 run-requires : tie.Need-run-requires
 run-requires c κs = search needs
@@ -36,7 +46,7 @@ same-length-7 : tie.Need-same-length-7
 same-length-7 c = search needs
 
 returns : tie.Need-returns
-returns c = left-is (c .before .before .before .before .before .before .before .before .before .before .before .before .before .before .before .before .before .before .before .before .before .before .before .before .before .before .before .before .args .sheet .now) _ (c .before .before .before .before .before .before .before .before .before .before .before .before .before .before .before .before .before .before .before .before .before .before .before .before .before .before .before .before .args .trace .now) (c .before .before .before .before .before .before .before .before .before .before .before .before .before .before .before .before .before .before .before .before .before .before .before .before .before .before .before .before .args .k) _ _ _ (c .before .before .before .before .before .before .before .before .before .before .before .before .before .run .ensures)
+returns c = left-is (start-from-run (search) .args .sheet .now) _ (start-from-run (search) .args .trace .now) (start-from-run (search) .args .k) _ _ _ (after-run (search) .run .ensures)
 
 pub piece-spec : {M : Type 1} → statement M
 piece-spec =

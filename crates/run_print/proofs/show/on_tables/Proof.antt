@@ -6,8 +6,15 @@ use Rattle.run_print.proofs.show.on_tables.Tie as tie
 fresh-run-requires : tie.Need-fresh-run-requires
 fresh-run-requires c κs = search needs
 
+-- The places that the answers look back to: `search` finds each by its type.
+abbrev after-fresh-run : tie.After-fresh-run → tie.After-fresh-run
+after-fresh-run x = x
+
+abbrev start-from-fresh-run : tie.After-fresh-run → tie.Start
+start-from-fresh-run x = x .before .before .before .before .before .before .before .before .before .before .before .before .before .before
+
 pieces-requires : tie.Need-pieces-requires
-pieces-requires c κs = (fresh-stands-on (c .before .before .before .before .before .before .before .before .before .before .before .before .before .before .before .before .before .before .before .before .before .before .before .before .before .before .before .before .before .before .before .before .before .args .header) (c .before .before .before .before .before .before .before .before .before .before .before .before .before .before .before .before .before .before .before .before .before .before .before .before .before .before .before .before .before .before .before .before .before .args .sheet .now) _ (c .before .before .before .before .before .before .before .before .before .before .before .before .before .before .before .before .before .before .before .before .before .before .before .before .before .before .before .before .before .before .before .before .before .args .trace .now) (c .before .before .before .before .before .before .before .before .before .before .before .before .before .before .before .before .before .before .before .before .before .before .before .before .before .before .before .before .before .before .before .before .before .pre .0) _ _ (c .before .before .before .before .before .before .before .before .before .before .before .before .before .before .before .before .before .before .before .fresh-run .ensures), c .before .before .before .before .before .before .before .before .before .before .before .before .before .before .before .before .before .before .before .before .before .before .before .before .before .before .before .before .before .before .before .before .before .pre .1)
+pieces-requires c κs = (fresh-stands-on (start-from-fresh-run (search) .args .header) (start-from-fresh-run (search) .args .sheet .now) _ (start-from-fresh-run (search) .args .trace .now) (start-from-fresh-run (search) .pre .0) _ _ (after-fresh-run (search) .fresh-run .ensures), start-from-fresh-run (search) .pre .1)
 
 same-length : tie.Need-same-length
 same-length c = search needs

@@ -21,11 +21,21 @@ add-p c = search needs
 mul-links : tie.Need-mul-links
 mul-links c = search needs
 
+-- The places that the answers look back to: `search` finds each by its type.
+abbrev start : tie.Start → tie.Start
+start x = x
+
+abbrev after-total : tie.After-total → tie.After-total
+after-total x = x
+
+abbrev after-wide : tie.After-wide → tie.After-wide
+after-wide x = x
+
 array-borrow-prefix-links : tie.Need-array-borrow-prefix-links
-array-borrow-prefix-links c = links-in (c .before .before .before .before .args .sheet .now) _ (c .before .before .before .before .pre) _ (c .before .total .ensures) _ (c .wide .ensures)
+array-borrow-prefix-links c = links-in (start (search) .args .sheet .now) _ (start (search) .pre) _ (c .before .total .ensures) _ (c .wide .ensures)
 
 slice-aggregate-on-tables : tie.Need-slice-aggregate-on-tables
-slice-aggregate-on-tables c = links-part (c .before .before .before .before .before .args .sheet .now) _ (c .before .before .before .before .before .pre) _ (c .before .before .total .ensures) _ (c .before .wide .ensures)
+slice-aggregate-on-tables c = links-part (start (search) .args .sheet .now) _ (start (search) .pre) _ (c .before .before .total .ensures) _ (c .before .wide .ensures)
 
 add-axis : tie.Need-add-axis
 add-axis c = search needs
@@ -34,28 +44,28 @@ mul-axis : tie.Need-mul-axis
 mul-axis c = search needs
 
 array-borrow-prefix-axis : tie.Need-array-borrow-prefix-axis
-array-borrow-prefix-axis c = axis-in (c .before .before .before .before .before .args .sheet .now) _ (c .before .before .before .before .before .pre) _ (c .before .before .total .ensures) _ (c .before .wide .ensures)
+array-borrow-prefix-axis c = axis-in (start (search) .args .sheet .now) _ (start (search) .pre) _ (c .before .before .total .ensures) _ (c .before .wide .ensures)
 
 slice-aggregate-on-tables-2 : tie.Need-slice-aggregate-on-tables-2
-slice-aggregate-on-tables-2 c = axis-part (c .before .before .before .before .before .before .args .sheet .now) _ (c .before .before .before .before .before .before .pre) _ (c .before .before .before .total .ensures) _ (c .before .before .wide .ensures)
+slice-aggregate-on-tables-2 c = axis-part (start (search) .args .sheet .now) _ (start (search) .pre) _ (after-total (search) .total .ensures) _ (c .before .before .wide .ensures)
 
 array-borrow-prefix-times : tie.Need-array-borrow-prefix-times
-array-borrow-prefix-times c = one-in (c .before .before .before .before .before .before .args .sheet .now) _ (c .before .before .before .before .before .before .pre) _ (c .before .before .before .total .ensures) _ (c .before .before .wide .ensures)
+array-borrow-prefix-times c = one-in (start (search) .args .sheet .now) _ (start (search) .pre) _ (after-total (search) .total .ensures) _ (c .before .before .wide .ensures)
 
 slice-aggregate-on-tables-3 : tie.Need-slice-aggregate-on-tables-3
-slice-aggregate-on-tables-3 c = one-part (c .before .before .before .before .before .before .before .args .sheet .now) _ (c .before .before .before .before .before .before .before .pre) _ (c .before .before .before .before .total .ensures) _ (c .before .before .before .wide .ensures)
+slice-aggregate-on-tables-3 c = one-part (start (search) .args .sheet .now) _ (start (search) .pre) _ (after-total (search) .total .ensures) _ (after-wide (search) .wide .ensures)
 
 array-borrow-prefix-marks : tie.Need-array-borrow-prefix-marks
-array-borrow-prefix-marks c = one-in (c .before .before .before .before .before .before .before .args .sheet .now) _ (c .before .before .before .before .before .before .before .pre) _ (c .before .before .before .before .total .ensures) _ (c .before .before .before .wide .ensures)
+array-borrow-prefix-marks c = one-in (start (search) .args .sheet .now) _ (start (search) .pre) _ (after-total (search) .total .ensures) _ (after-wide (search) .wide .ensures)
 
 slice-aggregate-on-tables-4 : tie.Need-slice-aggregate-on-tables-4
-slice-aggregate-on-tables-4 c = one-part (c .before .before .before .before .before .before .before .before .args .sheet .now) _ (c .before .before .before .before .before .before .before .before .pre) _ (c .before .before .before .before .before .total .ensures) _ (c .before .before .before .before .wide .ensures)
+slice-aggregate-on-tables-4 c = one-part (start (search) .args .sheet .now) _ (start (search) .pre) _ (after-total (search) .total .ensures) _ (after-wide (search) .wide .ensures)
 
 array-borrow-prefix-positions : tie.Need-array-borrow-prefix-positions
-array-borrow-prefix-positions c = one-in (c .before .before .before .before .before .before .before .before .args .sheet .now) _ (c .before .before .before .before .before .before .before .before .pre) _ (c .before .before .before .before .before .total .ensures) _ (c .before .before .before .before .wide .ensures)
+array-borrow-prefix-positions c = one-in (start (search) .args .sheet .now) _ (start (search) .pre) _ (after-total (search) .total .ensures) _ (after-wide (search) .wide .ensures)
 
 slice-aggregate-on-tables-5 : tie.Need-slice-aggregate-on-tables-5
-slice-aggregate-on-tables-5 c = one-part (c .before .before .before .before .before .before .before .before .before .args .sheet .now) _ (c .before .before .before .before .before .before .before .before .before .pre) _ (c .before .before .before .before .before .before .total .ensures) _ (c .before .before .before .before .before .wide .ensures)
+slice-aggregate-on-tables-5 c = one-part (start (search) .args .sheet .now) _ (start (search) .pre) _ (after-total (search) .total .ensures) _ (after-wide (search) .wide .ensures)
 
 slice-aggregate-on-tables-6 : tie.Need-slice-aggregate-on-tables-6
 slice-aggregate-on-tables-6 c = search needs
@@ -64,7 +74,7 @@ slice-aggregate-on-tables-7 : tie.Need-slice-aggregate-on-tables-7
 slice-aggregate-on-tables-7 c = search needs
 
 on-tables-requires : tie.Need-on-tables-requires
-on-tables-requires c κs = (lent-startable (c .before .before .before .before .before .before .before .before .before .before .before .args .sheet .now) _ (c .before .before .before .before .before .before .before .before .before .before .before .pre) _ (c .before .before .before .before .before .before .before .before .total .ensures) _ (c .before .before .before .before .before .before .before .wide .ensures) _ (omega (arith, length-replicate {A = ℕ} 65536 0)), omega (arith, length-replicate {A = ℕ} 65536 0))
+on-tables-requires c κs = (lent-startable (start (search) .args .sheet .now) _ (start (search) .pre) _ (after-total (search) .total .ensures) _ (after-wide (search) .wide .ensures) _ (omega (arith, length-replicate {A = ℕ} 65536 0)), omega (arith, length-replicate {A = ℕ} 65536 0))
 
 returns : tie.Need-returns
 returns c = search needs

@@ -1,8 +1,8 @@
 use lib.ListN.{length-set}
 use borrow.Author.Needs.{needs}
 use native.Mathlib.Omega.{arith}
-use Rattle.calls_served.proofs.accum_calls.first_alone.Statement.{statement}
-use Rattle.calls_served.proofs.accum_calls.first_alone.Tie as tie
+use Rattle.calls.proofs.accum_calls.first_alone.Statement.{statement}
+use Rattle.calls.proofs.accum_calls.first_alone.Tie as tie
 
 returns : tie.Need-returns
 returns c = search needs

@@ -1,5 +1,5 @@
 // The calls and queries of a request's number and operands (docs/CALLS.md), as values.
-use crate::head::Head;
+use calls_served::head::Head;
 use model::call::Query;
 use model::call::SequencingCall;
 use model::call::SetCall;

@@ -1,7 +1,7 @@
 // Call 41: the layout of a sheet. Answers the number of its records.
-use crate::reply::Reply;
-use crate::reply::accepted;
-use crate::reply::refused;
+use calls_served::reply::Reply;
+use calls_served::reply::accepted;
+use calls_served::reply::refused;
 use sheet::header::Checked;
 use sheet_check::check::check;
 
