@@ -1,3 +1,6 @@
+use mathlib.Core.Path.{_∙_}
+use mir.Syntax.{w64}
+use mir.ValLaws.{toZ-ofZ}
 use Rattle.calls_served.specs.Heads.{head-is}
 use borrow.Author.Needs.{needs}
 use native.Mathlib.Omega.{arith}
@@ -44,7 +47,7 @@ u32-at-requires-4 : tie.Need-u32-at-requires-4
 u32-at-requires-4 c κs = search needs
 
 returns : tie.Need-returns
-returns c = head-is _ _ _ _ _ _ _ _ _ (c .before .before .before .before .before .before .counts-at .ensures) (c .before .before .before .before .before .i64-at .ensures) (c .before .before .before .before .sizes-at .ensures) (c .before .before .before .u32-at .ensures) (c .before .before .u32-at2 .ensures) (c .before .u32-at3 .ensures) (c .u32-at4 .ensures)
+returns c = head-is _ _ _ _ _ _ _ _ _ (c .before .before .before .before .before .before .counts-at .ensures) (toZ-ofZ w64 _ (record { sfits = c .before .before .before .before .before .i64-at .ok }) ∙ c .before .before .before .before .before .i64-at .ensures) (c .before .before .before .before .sizes-at .ensures) (c .before .before .before .u32-at .ensures) (c .before .before .u32-at2 .ensures) (c .before .u32-at3 .ensures) (c .u32-at4 .ensures)
 
 pub head-at-spec : {M : Type 1} → statement M
 head-at-spec =
