@@ -24,6 +24,7 @@ pub mod OneTurn
 pub mod Paused
 pub mod Stretching
 pub mod Between
+pub mod AnyTurn
 pub mod Judging
 pub mod RunIs
 pub mod CallFollows

@@ -34,34 +34,31 @@ use Rattle.run_laws.specs.StepIs.{Went, stayed}
 use Rattle.run_laws.specs.Turning.{Turning, turning-start, line-fits, SameLengths, same-lengths}
 use Rattle.run_laws.specs.Running.{Here, positioned, as-positioned, here-positioned, callable, ends, turned-down, goes-on, moved-on, stays-here}
 
-pub record Stretching (c : Counts) (bytes : List ℕ) (n₀ : ℕ) (whole : RanOn) (u₀ : RunTables) (tr₀ : List ℕ) (end at f time r : ℕ) (u : RunTables) (tr : List ℕ) : Type 0 where
-  pub turning : Turning c bytes (length tr₀ / lineSize) (at / lineSize) whole u₀ tr₀ (positioned u f r) tr
+pub record Stretching (c : Counts) (bytes : List ℕ) (room n₀ : ℕ) (whole : RanOn) (u₀ : RunTables) (tr₀ : List ℕ) (end at f time r : ℕ) (u : RunTables) (tr : List ℕ) : Type 0 where
+  pub turning : Turning c bytes room (at / lineSize) whole u₀ tr₀ (positioned u f r) tr
   pub here : Here c (positioned u f r) f time r
   pub begun : lineSize * n₀ ≤ at
   pub even : at ≡ lineSize * (at / lineSize)
-  pub end-is : end ≡ lineSize * (length tr₀ / lineSize)
+  pub end-is : end ≡ lineSize * room
 
-pub stretching-start : (c : Counts) (bytes : List ℕ) (n : ℕ) (u : RunTables) (tr : List ℕ) (f time r : ℕ) → Standing c bytes u → length tr ≤ traceLimit → n ≤ length tr / lineSize
-    → f ≡ firstOf (half c) (u .model .axis) → time ≡ getD (u .model .times) f 0 → r ≡ getD (u .positions) f 0
-    → Stretching c bytes n (turnsOn c bytes n (length tr / lineSize - n) u tr) u tr (lineSize * (length tr / lineSize)) (lineSize * n) f time r u tr
-stretching-start c bytes n u tr f time r s l h ef et er =
+pub stretching-start : (c : Counts) (bytes : List ℕ) (room n : ℕ) (u : RunTables) (tr : List ℕ) (f time r : ℕ) → Standing c bytes u → length tr ≤ traceLimit
+    → n ≤ room → room ≤ length tr / lineSize → f ≡ firstOf (half c) (u .model .axis) → time ≡ getD (u .model .times) f 0 → r ≡ getD (u .positions) f 0
+    → Stretching c bytes room n (turnsOn c bytes n (room - n) u tr) u tr (lineSize * room) (lineSize * n) f time r u tr
+stretching-start c bytes room n u tr f time r s l h g ef et er =
     let z : lineSize * n / lineSize ≡ n = omega arith in
     record {
       turning =
-          subst (λ (v : RunTables). Turning c bytes (length tr / lineSize) (lineSize * n / lineSize) (turnsOn c bytes n (length tr / lineSize - n) u tr) u tr v tr) (as-positioned u f r er)
-          (subst (λ (j : ℕ). Turning c bytes (length tr / lineSize) j (turnsOn c bytes n (length tr / lineSize - n) u tr) u tr u tr) (sym z)
-          (turning-start c bytes n (length tr / lineSize - n) u tr s l (omega arith)));
+          subst (λ (v : RunTables). Turning c bytes room (lineSize * n / lineSize) (turnsOn c bytes n (room - n) u tr) u tr v tr) (as-positioned u f r er)
+          (subst (λ (j : ℕ). Turning c bytes room j (turnsOn c bytes n (room - n) u tr) u tr u tr) (sym z)
+          (turning-start c bytes room n (room - n) u tr s l g (omega arith)));
       here = here-positioned c u f time r ef et er;
       begun = omega arith;
       even = omega arith;
       end-is = refl;
     }
 
-module _ (c : Counts) (bytes : List ℕ) (n₀ : ℕ) (whole : RanOn) (u₀ : RunTables) (tr₀ : List ℕ) (end at f time r : ℕ) (u : RunTables) (tr : List ℕ)
-    (s : Stretching c bytes n₀ whole u₀ tr₀ end at f time r u tr) where
-  abbrev room : ℕ
-  room = length tr₀ / lineSize
-
+module _ (c : Counts) (bytes : List ℕ) (room n₀ : ℕ) (whole : RanOn) (u₀ : RunTables) (tr₀ : List ℕ) (end at f time r : ℕ) (u : RunTables) (tr : List ℕ)
+    (s : Stretching c bytes room n₀ whole u₀ tr₀ end at f time r u tr) where
   pub its-call : r ≢ 0 → Performable c bytes (recordOffset (c .processes) r) f time (u .model) (u .words)
   its-call = callable c bytes room (at / lineSize) whole u₀ tr₀ (positioned u f r) tr (s .turning) f time r (s .here)
 
@@ -116,7 +113,7 @@ module _ (c : Counts) (bytes : List ℕ) (n₀ : ℕ) (whole : RanOn) (u₀ : Ru
             clash (sym y)
 
     pub stopped : (x : Refusal) → p .effect ≡ Refused x → (n : ℕ) → n ≡ at / lineSize → (ps : List ℕ) → ps ≡ set (u .positions) f r
-        → Paused c bytes n₀ whole tr₀ (runOf (p .tables) ps (p .words)) tr (record { lines = n; pause = Stopped x })
+        → Paused c bytes room n₀ whole tr₀ (runOf (p .tables) ps (p .words)) tr (record { lines = n; pause = Stopped x })
     stopped x e n en ps eps =
         record {
           stands = λ z. clash z;
@@ -145,7 +142,7 @@ module _ (c : Counts) (bytes : List ℕ) (n₀ : ℕ) (whole : RanOn) (u₀ : Ru
 
       -- the process stays current, and its position is kept beside the table
       pub stays : stayed (p .effect) ≡ true → tr′ ≡ put tr at (lineBytes time (linkageAt c f) r)
-          → Stretching c bytes n₀ whole u₀ tr₀ end (at + lineSize) f time next (after (u .positions)) tr′
+          → Stretching c bytes room n₀ whole u₀ tr₀ end (at + lineSize) f time next (after (u .positions)) tr′
       stays st w =
           record {
             turning = turned (set (u .positions) f next) went;
@@ -177,7 +174,7 @@ module _ (c : Counts) (bytes : List ℕ) (n₀ : ℕ) (whole : RanOn) (u₀ : Ru
             moved-on c bytes room (at / lineSize) whole u₀ tr₀ (positioned u f r) tr (s .turning) f time r (s .here) (room-left h) unfinished p made next v ps tr′ went
 
         pub moves : (f′ time′ r′ : ℕ) → f′ ≡ firstOf (half c) (p .tables .axis) → time′ ≡ getD (p .tables .times) f′ 0 → r′ ≡ getD ps f′ 0
-            → Stretching c bytes n₀ whole u₀ tr₀ end (at + lineSize) f′ time′ r′ (after ps) tr′
+            → Stretching c bytes room n₀ whole u₀ tr₀ end (at + lineSize) f′ time′ r′ (after ps) tr′
         moves f′ time′ r′ ef et er =
             record {
               turning = subst (λ (x : RunTables). Turning c bytes room ((at + lineSize) / lineSize) whole u₀ tr₀ x tr′) (as-positioned (after ps) f′ r′ er) (turned ps went);
@@ -195,9 +192,9 @@ module _ (c : Counts) (bytes : List ℕ) (n₀ : ℕ) (whole : RanOn) (u₀ : Ru
 
     -- where there is no room for a line
     pub fills : end ≤ at → (ps : List ℕ) → ps ≡ set (u .positions) f r
-        → Paused c bytes n₀ whole tr₀ (runOf (u .model) ps (u .words)) tr (record { lines = n; pause = Full })
+        → Paused c bytes room n₀ whole tr₀ (runOf (u .model) ps (u .words)) tr (record { lines = n; pause = Full })
     fills l ps eps =
-        subst (λ (l : List ℕ). Paused c bytes n₀ whole tr₀ (runOf (u .model) l (u .words)) tr (record { lines = n; pause = Full })) (sym eps)
+        subst (λ (l : List ℕ). Paused c bytes room n₀ whole tr₀ (runOf (u .model) l (u .words)) tr (record { lines = n; pause = Full })) (sym eps)
         (record {
           stands = λ z. s .turning .stands;
           size = s .turning .size;
@@ -211,14 +208,14 @@ module _ (c : Counts) (bytes : List ℕ) (n₀ : ℕ) (whole : RanOn) (u₀ : Ru
     -- and before a call that is made apart
     module _ (h : at < end) (p : Performed) (is : p ≡ tried c (recordGot (c .processes) bytes r) f (u .model) (u .words)) (m : isApart (p .effect) ≡ true) where
       pub waits : (ps : List ℕ) → ps ≡ set (u .positions) f r
-          → Paused c bytes n₀ whole tr₀ (runOf (p .tables) ps (p .words)) tr (record { lines = n; pause = Apart })
+          → Paused c bytes room n₀ whole tr₀ (runOf (p .tables) ps (p .words)) tr (record { lines = n; pause = Apart })
       waits ps eps =
           let d = left-of c (recordGot (c .processes) bytes r) f (u .model) (u .words) p is m in
           let same : positioned u f r ≡ runOf (p .tables) ps (p .words) =
           ap (λ (t : Tables). runOf t (set (u .positions) f r) (u .words)) (sym (d .1))
           ∙ ap (λ (w : List ℤ). runOf (p .tables) (set (u .positions) f r) w) (sym (d .2))
           ∙ ap (λ (l : List ℕ). runOf (p .tables) l (p .words)) (sym eps) in
-          subst (λ (v : RunTables). Paused c bytes n₀ whole tr₀ v tr (record { lines = n; pause = Apart })) same
+          subst (λ (v : RunTables). Paused c bytes room n₀ whole tr₀ v tr (record { lines = n; pause = Apart })) same
           (record {
             stands = λ z. s .turning .stands;
             size = s .turning .size;

@@ -85,20 +85,20 @@ pub record Turning (c : Counts) (bytes : List ℕ) (room n : ℕ) (whole : RanOn
   pub begun : Standing c bytes u₀
   pub stands : Standing c bytes u
   pub size : length tr ≡ length tr₀
-  pub room-is : room ≡ length tr₀ / lineSize
+  pub room-in : room ≤ length tr₀ / lineSize
   pub short : length tr₀ ≤ traceLimit
   pub few : n ≤ room
   pub same : (k : ℕ) → n + k ≡ room → turnsOn c bytes n k u tr ≡ whole
 
 -- with n lines written, and room for j more
-pub turning-start : (c : Counts) (bytes : List ℕ) (n j : ℕ) (u : RunTables) (tr : List ℕ) → Standing c bytes u → length tr ≤ traceLimit → n + j ≡ length tr / lineSize
-    → Turning c bytes (length tr / lineSize) n (turnsOn c bytes n j u tr) u tr u tr
-turning-start c bytes n j u tr s l q =
+pub turning-start : (c : Counts) (bytes : List ℕ) (room n j : ℕ) (u : RunTables) (tr : List ℕ) → Standing c bytes u → length tr ≤ traceLimit
+    → room ≤ length tr / lineSize → n + j ≡ room → Turning c bytes room n (turnsOn c bytes n j u tr) u tr u tr
+turning-start c bytes room n j u tr s l h q =
     record {
       begun = s;
       stands = s;
       size = refl;
-      room-is = refl;
+      room-in = h;
       short = l;
       few = omega arith;
       same = λ k e. let z : k ≡ j = omega arith in ap (λ (i : ℕ). turnsOn c bytes n i u tr) z;
@@ -109,14 +109,14 @@ pub turning-then : (c : Counts) (bytes : List ℕ) (room n m : ℕ) (whole part 
     → Turning c bytes room n whole u₀ tr₀ u tr → part ≡ whole → Standing c bytes v → length tv ≡ length tr → m ≤ room
     → ((k : ℕ) → m + k ≡ room → turnsOn c bytes m k v tv ≡ part) → Turning c bytes room m whole u₀ tr₀ v tv
 turning-then c bytes room n m whole part u₀ tr₀ u tr v tv t e s z l g =
-    record { begun = t .begun; stands = s; size = z ∙ t .size; room-is = t .room-is; short = t .short; few = l; same = λ k q. g k q ∙ e }
+    record { begun = t .begun; stands = s; size = z ∙ t .size; room-in = t .room-in; short = t .short; few = l; same = λ k q. g k q ∙ e }
 
 module _ (c : Counts) (bytes : List ℕ) (room n : ℕ) (whole : RanOn) (u₀ : RunTables) (tr₀ : List ℕ) (u : RunTables) (tr : List ℕ) (t : Turning c bytes room n whole u₀ tr₀ u tr) where
   pub most-lines : n ≤ 4096
-  most-lines = omega (arith, t .few, t .room-is, t .short)
+  most-lines = omega (arith, t .few, t .room-in, t .short)
 
   pub line-fits : n < room → lineSize * n + lineSize ≤ length tr
-  line-fits l = omega (arith, t .room-is, t .size)
+  line-fits l = omega (arith, t .room-in, t .size)
 
   -- at the end of the room
   module _ (h : room ≤ n) where
@@ -174,7 +174,7 @@ module _ (c : Counts) (bytes : List ℕ) (room n : ℕ) (whole : RanOn) (u₀ : 
             begun = t .begun;
             stands = subst (λ (p : Stepped). Standing c bytes (p .run)) (sym e) (step-standing bytes u (lineSize * n) tr c next (t .stands) (ap (λ (p : Stepped). p .turned) (sym e) ∙ v));
             size = z ∙ t .size;
-            room-is = t .room-is;
+            room-in = t .room-in;
             short = t .short;
             few = omega arith;
             same = λ k q.

@@ -1,4 +1,4 @@
 // The turns of a run on judged tables: stretches of turns, and turns whose call is made apart.
 mod stretch;
-mod turn;
+pub mod turn;
 pub mod turns;

@@ -22,7 +22,7 @@ ghost use Rattle.run_laws.specs.Standing.{Standing};
 ghost use Rattle.run_laws.specs.Paused.{Paused};
 ghost use Rattle.machine.specs.Run.{lineSize, traceLimit};
 
-// From a trace of so many lines on; the trace's place is counted in bytes.
+// From a trace of so many lines on, until it has room lines; the trace's place is counted in bytes.
 pub(crate) fn stretch(
     c: Counts,
     sheet: &[u8],
@@ -34,15 +34,17 @@ pub(crate) fn stretch(
     accums: &mut [i64],
     trace: &mut [u8],
     lines: usize,
+    room: usize,
 ) -> Stretch
     requires { ⌜ Standing c (now sheet) (lent (now links) (now axis) (now times) (now marks) (now positions) (now accums)) ⌝ }
     requires { ⌜ length (now trace) ≤ traceLimit ⌝ }
-    requires { ⌜ lines ≤ length (now trace) / lineSize ⌝ }
-    ensures { λ s. ⌜ Paused c (now (sheet .entry)) lines
-        (turnsOn c (now (sheet .entry)) lines (length (now (trace .entry)) / lineSize - lines) (lent (now (links .entry)) (now (axis .entry)) (now (times .entry)) (now (marks .entry)) (now (positions .entry)) (now (accums .entry))) (now (trace .entry)))
+    requires { ⌜ lines ≤ room ⌝ }
+    requires { ⌜ room ≤ length (now trace) / lineSize ⌝ }
+    ensures { λ s. ⌜ Paused c (now (sheet .entry)) room lines
+        (turnsOn c (now (sheet .entry)) lines (room - lines) (lent (now (links .entry)) (now (axis .entry)) (now (times .entry)) (now (marks .entry)) (now (positions .entry)) (now (accums .entry))) (now (trace .entry)))
         (now (trace .entry)) (lent (now (links .exit)) (now (axis .exit)) (now (times .exit)) (now (marks .exit)) (now (positions .exit)) (now (accums .exit))) (now (trace .exit)) s ⌝ }
 {
-    let end = LINE_BYTES * (trace.len() / LINE_BYTES);
+    let end = LINE_BYTES * room;
     let mut at = LINE_BYTES * lines;
     let mut f = place_now(c, axis);
     let mut time = time_of(times, f);

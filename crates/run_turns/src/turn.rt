@@ -1,7 +1,9 @@
-// One turn on judged tables, whose call no stretch makes: main is at its end, or the step is made or turned down; after a step that is made the
-// process is at its next record, and the line is written.
+// One turn on judged tables: main is at its end, or a step is made or turned down; after a step that is made the process is at its next record,
+// and the line is written.
+use crate::stretch::stretch;
 use model::Counts;
 use model::verdict::Verdict;
+use run_laws::Pause;
 use run_laws::Turn;
 use run_step::apart::goes_to;
 use run_step::apart::perform_apart;
@@ -12,17 +14,18 @@ use run_step::reading::next_of;
 use run_step::reading::place_now;
 use run_step::reading::record_of;
 use run_step::reading::time_of;
+use trace::LINE_BYTES;
 ghost use mathlib.Core.Path.{_≡_};
 ghost use mathlib.Core.Bool.{true};
-ghost use Prim.Native.Nat.{_+_, _≤_};
+ghost use Prim.Native.Nat.{_+_, _*_, _/_, _≤_, _<_};
 ghost use lib.ListN.{length};
 ghost use Rattle.run_laws.specs.Run.{lent, recordGot, recordAtNow, turnOn};
 ghost use Rattle.run_laws.specs.Standing.{Standing};
 ghost use Rattle.run_laws.specs.Tried.{apart};
-ghost use Rattle.machine.specs.Run.{lineSize};
+ghost use Rattle.machine.specs.Run.{lineSize, traceLimit};
 
-// The line, if there is one, goes to byte i.
-pub(crate) fn turn_apart(
+// A turn whose call no stretch makes. The line, if there is one, goes to byte i.
+fn turn_apart(
     c: Counts,
     sheet: &[u8],
     links: &mut [u32],
@@ -53,6 +56,61 @@ pub(crate) fn turn_apart(
             let next = goes_to(e, next_of(sheet, c.processes, r));
             move_on(c, positions, trace, f, time, r, i, next);
             Turn::Made
+        }
+    }
+}
+
+// A turn whose call may be any, where the trace has n lines and room for one more: a stretch of one line, and a turn apart where that leaves
+// the call.
+pub fn turn(
+    c: Counts,
+    sheet: &[u8],
+    links: &mut [u32],
+    axis: &mut [u32],
+    times: &mut [u64],
+    marks: &mut [u8],
+    positions: &mut [u32],
+    accums: &mut [i64],
+    trace: &mut [u8],
+    n: usize,
+) -> Turn
+    requires { ⌜ Standing c (now sheet) (lent (now links) (now axis) (now times) (now marks) (now positions) (now accums)) ⌝ }
+    requires { ⌜ length (now trace) ≤ traceLimit ⌝ }
+    requires { ⌜ n < length (now trace) / lineSize ⌝ }
+    ensures { λ r. ⌜ record { run = lent (now (links .exit)) (now (axis .exit)) (now (times .exit)) (now (marks .exit)) (now (positions .exit)) (now (accums .exit)); trace = now (trace .exit); turn = r }
+        ≡ turnOn c (now (sheet .entry)) (lineSize * n) (lent (now (links .entry)) (now (axis .entry)) (now (times .entry)) (now (marks .entry)) (now (positions .entry)) (now (accums .entry))) (now (trace .entry)) ⌝ }
+{
+    let s = stretch(
+        c,
+        sheet,
+        links,
+        axis,
+        times,
+        marks,
+        positions,
+        accums,
+        trace,
+        n,
+        n + 1,
+    );
+    let pause = s.pause;
+    match pause {
+        Pause::Full => Turn::Made,
+        Pause::Refused(q) => Turn::Refused(q),
+        Pause::Apart => {
+            let i = LINE_BYTES * n;
+            turn_apart(
+                c,
+                sheet,
+                links,
+                axis,
+                times,
+                marks,
+                positions,
+                accums,
+                trace,
+                i,
+            )
         }
     }
 }

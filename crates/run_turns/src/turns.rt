@@ -1,7 +1,7 @@
 // Turn after turn on judged tables, until main has finished, the trace is full or a step is refused: stretches of turns, and between them
 // a turn whose call no stretch makes.
 use crate::stretch::stretch;
-use crate::turn::turn_apart;
+use crate::turn::turn;
 use machine::End;
 use model::Counts;
 use run_laws::Pause;
@@ -56,6 +56,7 @@ pub fn turns(
             accums,
             trace,
             n,
+            room,
         );
         n = s.lines;
         let pause = s.pause;
@@ -67,7 +68,7 @@ pub fn turns(
                     end: End::Refused(q),
                 };
             }
-            Pause::Apart => match turn_apart(
+            Pause::Apart => match turn(
                 c,
                 sheet,
                 links,
@@ -77,7 +78,7 @@ pub fn turns(
                 positions,
                 accums,
                 trace,
-                LINE_BYTES * n,
+                n,
             ) {
                 Turn::Finished => {
                     return Ran {
