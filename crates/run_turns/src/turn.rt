@@ -25,7 +25,7 @@ ghost use Rattle.run_laws.specs.Tried.{apart};
 ghost use Rattle.machine.specs.Run.{lineSize, traceLimit};
 
 // A turn whose call no stretch makes. The line, if there is one, goes to byte i.
-fn turn_apart(
+pub(crate) fn turn_apart(
     c: Counts,
     sheet: &[u8],
     links: &mut [u32],

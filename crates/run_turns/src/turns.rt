@@ -1,7 +1,7 @@
 // Turn after turn on judged tables, until main has finished, the trace is full or a step is refused: stretches of turns, and between them
 // a turn whose call no stretch makes.
 use crate::stretch::stretch;
-use crate::turn::turn;
+use crate::turn::turn_apart;
 use machine::End;
 use model::Counts;
 use run_laws::Pause;
@@ -68,7 +68,7 @@ pub fn turns(
                     end: End::Refused(q),
                 };
             }
-            Pause::Apart => match turn(
+            Pause::Apart => match turn_apart(
                 c,
                 sheet,
                 links,
@@ -78,7 +78,7 @@ pub fn turns(
                 positions,
                 accums,
                 trace,
-                n,
+                LINE_BYTES * n,
             ) {
                 Turn::Finished => {
                     return Ran {

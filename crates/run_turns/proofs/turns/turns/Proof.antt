@@ -6,7 +6,7 @@ use Rattle.machine.specs.Run.{lineSize}
 use Rattle.run_laws.specs.declared.Pause.{Pause}
 use Rattle.run_laws.specs.Run.{lent, turnsOn}
 use Rattle.run_laws.specs.Standing.{its-judged, in-positions}
-use Rattle.run_laws.specs.Turning.{Turning, turning-start, most-lines, out-finished, out-full, same-lengths}
+use Rattle.run_laws.specs.Turning.{Turning, turning-start, most-lines, line-fits, out-finished, out-full, same-lengths}
 use Rattle.run_laws.specs.Running.{here-at, ends}
 use Rattle.run_laws.specs.Paused.{isFull, isDue}
 use Rattle.run_laws.specs.Between.{paused-on, paused-off, few-lines, due-on, due-room}
@@ -43,8 +43,8 @@ after-stretch x = x
 abbrev after-enum-told2 : tie.After-enum-told2 Inv-loop μ-loop → tie.After-enum-told2 Inv-loop μ-loop
 after-enum-told2 x = x
 
-abbrev after-turn : tie.After-turn Inv-loop μ-loop → tie.After-turn Inv-loop μ-loop
-after-turn x = x
+abbrev after-turn-apart : tie.After-turn-apart Inv-loop μ-loop → tie.After-turn-apart Inv-loop μ-loop
+after-turn-apart x = x
 
 abbrev after-place-now : tie.After-place-now Inv-loop μ-loop → tie.After-place-now Inv-loop μ-loop
 after-place-now x = x
@@ -52,17 +52,14 @@ after-place-now x = x
 abbrev after-record-of : tie.After-record-of Inv-loop μ-loop → tie.After-record-of Inv-loop μ-loop
 after-record-of x = x
 
-abbrev loop-from-turn-arg : tie.After-turn-arg Inv-loop μ-loop → tie.At-loop Inv-loop μ-loop
-loop-from-turn-arg x = x .before .before .before .before .before .before .before .before .before .before .before .before .before .before .before .before .before .before .before .before .before .before .before
+abbrev loop-from-enum-told2 : tie.After-enum-told2 Inv-loop μ-loop → tie.At-loop Inv-loop μ-loop
+loop-from-enum-told2 x = x .before .before .before .before .before .before .before .before .before .before .before .before .before .before .before .before .before .before .before .before .before .before
 
-abbrev in-loop-from-turn-arg : tie.After-turn-arg Inv-loop μ-loop → tie.In-loop Inv-loop μ-loop
-in-loop-from-turn-arg x = x .before .before .before .before .before .before .before .before .before .before .before .before .before .before .before .before .before .before .before .before .before .before
+abbrev in-loop-from-enum-told2 : tie.After-enum-told2 Inv-loop μ-loop → tie.In-loop Inv-loop μ-loop
+in-loop-from-enum-told2 x = x .before .before .before .before .before .before .before .before .before .before .before .before .before .before .before .before .before .before .before .before .before
 
-abbrev stretch-from-turn-arg : tie.After-turn-arg Inv-loop μ-loop → tie.After-stretch Inv-loop μ-loop
-stretch-from-turn-arg x = x .before .before .before .before .before .before .before .before .before .before .before .before .before .before
-
-abbrev enum-told2-from-turn-arg : tie.After-turn-arg Inv-loop μ-loop → tie.After-enum-told2 Inv-loop μ-loop
-enum-told2-from-turn-arg x = x .before
+abbrev stretch-from-enum-told2 : tie.After-enum-told2 Inv-loop μ-loop → tie.After-stretch Inv-loop μ-loop
+stretch-from-enum-told2 x = x .before .before .before .before .before .before .before .before .before .before .before .before .before
 
 loop-holds : tie.Need-loop-holds Inv-loop μ-loop
 loop-holds c = turning-start _ _ _ _ _ _ _ (start (search) .pre .0) (start (search) .pre .1) (omega arith) (omega arith)
@@ -112,80 +109,83 @@ returns c = paused-off _ _ _ _ _ _ _ _ _ (at-loop (search) .loop .inv) _ _ _ (af
 enum-told-2 : tie.Need-enum-told-2 Inv-loop μ-loop
 enum-told-2 c = search needs
 
-turn-requires : tie.Need-turn-requires Inv-loop μ-loop
-turn-requires c κs = ((due-on _ _ _ _ _ _ _ _ _ (loop-from-turn-arg (search) .loop .inv) _ _ _ (after-stretch (search) .stretch .ensures) (ap isDue (after-enum-told2 (search) .enum-told2 .given .1))) .stands, (omega (arith, (due-on _ _ _ _ _ _ _ _ _ (loop-from-turn-arg (search) .loop .inv) _ _ _ (after-stretch (search) .stretch .ensures) (ap isDue (after-enum-told2 (search) .enum-told2 .given .1))) .size, (loop-from-turn-arg (search) .loop .inv) .short), omega (arith, (due-on _ _ _ _ _ _ _ _ _ (loop-from-turn-arg (search) .loop .inv) _ _ _ (after-stretch (search) .stretch .ensures) (ap isDue (after-enum-told2 (search) .enum-told2 .given .1))) .size, (loop-from-turn-arg (search) .loop .inv) .room-in, due-room _ _ _ _ _ _ _ _ _ (loop-from-turn-arg (search) .loop .inv) _ _ _ (after-stretch (search) .stretch .ensures) (ap isDue (after-enum-told2 (search) .enum-told2 .given .1)))))
+mul-turn-apart : tie.Need-mul-turn-apart Inv-loop μ-loop
+mul-turn-apart c = omega (arith, few-lines _ _ _ _ _ _ _ _ _ (loop-from-enum-told2 (search) .loop .inv) _ _ _ (after-stretch (search) .stretch .ensures))
+
+turn-apart-requires : tie.Need-turn-apart-requires Inv-loop μ-loop
+turn-apart-requires c κs = ((due-on _ _ _ _ _ _ _ _ _ (loop-from-enum-told2 (search) .loop .inv) _ _ _ (after-stretch (search) .stretch .ensures) (ap isDue (after-enum-told2 (search) .enum-told2 .given .1))) .stands, (line-fits _ _ _ _ _ _ _ _ _ (due-on _ _ _ _ _ _ _ _ _ (loop-from-enum-told2 (search) .loop .inv) _ _ _ (after-stretch (search) .stretch .ensures) (ap isDue (after-enum-told2 (search) .enum-told2 .given .1))) (due-room _ _ _ _ _ _ _ _ _ (loop-from-enum-told2 (search) .loop .inv) _ _ _ (after-stretch (search) .stretch .ensures) (ap isDue (after-enum-told2 (search) .enum-told2 .given .1))), (after-stretch (search) .stretch .ensures) .due (ap isDue (after-enum-told2 (search) .enum-told2 .given .1)) .1))
 
 enum-told-3 : tie.Need-enum-told-3 Inv-loop μ-loop
 enum-told-3 c = search needs
 
 count-requires-2 : tie.Need-count-requires-2 Inv-loop μ-loop
-count-requires-2 c κs = few-lines _ _ _ _ _ _ _ _ _ (loop-from-turn-arg (search) .loop .inv) _ _ _ (stretch-from-turn-arg (search) .stretch .ensures)
+count-requires-2 c κs = few-lines _ _ _ _ _ _ _ _ _ (loop-from-enum-told2 (search) .loop .inv) _ _ _ (stretch-from-enum-told2 (search) .stretch .ensures)
 
 same-length-8 : tie.Need-same-length-8 Inv-loop μ-loop
-same-length-8 c = (after-turn (search) .turn .kept .1 .1 .0) ∙ (stretch-from-turn-arg (search) .stretch .kept .1 .1 .0) ∙ same-lengths _ _ _ _ ((loop-from-turn-arg (search) .loop .inv) .begun) ((loop-from-turn-arg (search) .loop .inv) .stands) .links-same
+same-length-8 c = (after-turn-apart (search) .turn-apart .kept .1 .1 .0) ∙ (stretch-from-enum-told2 (search) .stretch .kept .1 .1 .0) ∙ same-lengths _ _ _ _ ((loop-from-enum-told2 (search) .loop .inv) .begun) ((loop-from-enum-told2 (search) .loop .inv) .stands) .links-same
 
 same-length-9 : tie.Need-same-length-9 Inv-loop μ-loop
-same-length-9 c = (after-turn (search) .turn .kept .1 .1 .1 .0) ∙ (stretch-from-turn-arg (search) .stretch .kept .1 .1 .1 .0) ∙ same-lengths _ _ _ _ ((loop-from-turn-arg (search) .loop .inv) .begun) ((loop-from-turn-arg (search) .loop .inv) .stands) .axis-same
+same-length-9 c = (after-turn-apart (search) .turn-apart .kept .1 .1 .1 .0) ∙ (stretch-from-enum-told2 (search) .stretch .kept .1 .1 .1 .0) ∙ same-lengths _ _ _ _ ((loop-from-enum-told2 (search) .loop .inv) .begun) ((loop-from-enum-told2 (search) .loop .inv) .stands) .axis-same
 
 same-length-10 : tie.Need-same-length-10 Inv-loop μ-loop
-same-length-10 c = (after-turn (search) .turn .kept .1 .1 .1 .1 .0) ∙ (stretch-from-turn-arg (search) .stretch .kept .1 .1 .1 .1 .0) ∙ same-lengths _ _ _ _ ((loop-from-turn-arg (search) .loop .inv) .begun) ((loop-from-turn-arg (search) .loop .inv) .stands) .times-same
+same-length-10 c = (after-turn-apart (search) .turn-apart .kept .1 .1 .1 .1 .0) ∙ (stretch-from-enum-told2 (search) .stretch .kept .1 .1 .1 .1 .0) ∙ same-lengths _ _ _ _ ((loop-from-enum-told2 (search) .loop .inv) .begun) ((loop-from-enum-told2 (search) .loop .inv) .stands) .times-same
 
 same-length-11 : tie.Need-same-length-11 Inv-loop μ-loop
-same-length-11 c = (after-turn (search) .turn .kept .1 .1 .1 .1 .1 .0) ∙ same-lengths _ _ _ _ ((loop-from-turn-arg (search) .loop .inv) .begun) ((loop-from-turn-arg (search) .loop .inv) .stands) .marks-same
+same-length-11 c = (after-turn-apart (search) .turn-apart .kept .1 .1 .1 .1 .1 .0) ∙ same-lengths _ _ _ _ ((loop-from-enum-told2 (search) .loop .inv) .begun) ((loop-from-enum-told2 (search) .loop .inv) .stands) .marks-same
 
 same-length-12 : tie.Need-same-length-12 Inv-loop μ-loop
-same-length-12 c = (after-turn (search) .turn .kept .1 .1 .1 .1 .1 .1 .0) ∙ (stretch-from-turn-arg (search) .stretch .kept .1 .1 .1 .1 .1 .1 .0) ∙ same-lengths _ _ _ _ ((loop-from-turn-arg (search) .loop .inv) .begun) ((loop-from-turn-arg (search) .loop .inv) .stands) .positions-same
+same-length-12 c = (after-turn-apart (search) .turn-apart .kept .1 .1 .1 .1 .1 .1 .0) ∙ (stretch-from-enum-told2 (search) .stretch .kept .1 .1 .1 .1 .1 .1 .0) ∙ same-lengths _ _ _ _ ((loop-from-enum-told2 (search) .loop .inv) .begun) ((loop-from-enum-told2 (search) .loop .inv) .stands) .positions-same
 
 same-length-13 : tie.Need-same-length-13 Inv-loop μ-loop
-same-length-13 c = (after-turn (search) .turn .kept .1 .1 .1 .1 .1 .1 .1 .0) ∙ (stretch-from-turn-arg (search) .stretch .kept .1 .1 .1 .1 .1 .1 .1 .0) ∙ same-lengths _ _ _ _ ((loop-from-turn-arg (search) .loop .inv) .begun) ((loop-from-turn-arg (search) .loop .inv) .stands) .words-same
+same-length-13 c = (stretch-from-enum-told2 (search) .stretch .kept .1 .1 .1 .1 .1 .1 .1 .0) ∙ same-lengths _ _ _ _ ((loop-from-enum-told2 (search) .loop .inv) .begun) ((loop-from-enum-told2 (search) .loop .inv) .stands) .words-same
 
 same-length-14 : tie.Need-same-length-14 Inv-loop μ-loop
-same-length-14 c = (after-turn (search) .turn .kept .1 .1 .1 .1 .1 .1 .1 .1 .0) ∙ (stretch-from-turn-arg (search) .stretch .kept .1 .1 .1 .1 .1 .1 .1 .1 .0) ∙ (loop-from-turn-arg (search) .loop .inv) .size
+same-length-14 c = (after-turn-apart (search) .turn-apart .kept .1 .1 .1 .1 .1 .1 .1 .1 .0) ∙ (stretch-from-enum-told2 (search) .stretch .kept .1 .1 .1 .1 .1 .1 .1 .1 .0) ∙ (loop-from-enum-told2 (search) .loop .inv) .size
 
 returns-2 : tie.Need-returns-2 Inv-loop μ-loop
-returns-2 c = turned-finished _ _ _ _ _ _ _ _ _ (due-on _ _ _ _ _ _ _ _ _ (loop-from-turn-arg (search) .loop .inv) _ _ _ (stretch-from-turn-arg (search) .stretch .ensures) (ap isDue (after-enum-told2 (search) .enum-told2 .given .1))) (due-room _ _ _ _ _ _ _ _ _ (loop-from-turn-arg (search) .loop .inv) _ _ _ (stretch-from-turn-arg (search) .stretch .ensures) (ap isDue (after-enum-told2 (search) .enum-told2 .given .1))) _ (after-turn (search) .turn .ensures) _ (c .count2 .ensures) (c .before .enum-told3 .given .1)
+returns-2 c = turned-finished _ _ _ _ _ _ _ _ _ (due-on _ _ _ _ _ _ _ _ _ (loop-from-enum-told2 (search) .loop .inv) _ _ _ (stretch-from-enum-told2 (search) .stretch .ensures) (ap isDue (after-enum-told2 (search) .enum-told2 .given .1))) (due-room _ _ _ _ _ _ _ _ _ (loop-from-enum-told2 (search) .loop .inv) _ _ _ (stretch-from-enum-told2 (search) .stretch .ensures) (ap isDue (after-enum-told2 (search) .enum-told2 .given .1))) _ (after-turn-apart (search) .turn-apart .ensures) _ (c .count2 .ensures) (c .before .enum-told3 .given .1)
 
 enum-known-q : tie.Need-enum-known-q Inv-loop μ-loop
 enum-known-q c = search needs
 
 count-requires-3 : tie.Need-count-requires-3 Inv-loop μ-loop
-count-requires-3 c κs = few-lines _ _ _ _ _ _ _ _ _ (loop-from-turn-arg (search) .loop .inv) _ _ _ (stretch-from-turn-arg (search) .stretch .ensures)
+count-requires-3 c κs = few-lines _ _ _ _ _ _ _ _ _ (loop-from-enum-told2 (search) .loop .inv) _ _ _ (stretch-from-enum-told2 (search) .stretch .ensures)
 
 same-length-15 : tie.Need-same-length-15 Inv-loop μ-loop
-same-length-15 c = (after-turn (search) .turn .kept .1 .1 .0) ∙ (stretch-from-turn-arg (search) .stretch .kept .1 .1 .0) ∙ same-lengths _ _ _ _ ((loop-from-turn-arg (search) .loop .inv) .begun) ((loop-from-turn-arg (search) .loop .inv) .stands) .links-same
+same-length-15 c = (after-turn-apart (search) .turn-apart .kept .1 .1 .0) ∙ (stretch-from-enum-told2 (search) .stretch .kept .1 .1 .0) ∙ same-lengths _ _ _ _ ((loop-from-enum-told2 (search) .loop .inv) .begun) ((loop-from-enum-told2 (search) .loop .inv) .stands) .links-same
 
 same-length-16 : tie.Need-same-length-16 Inv-loop μ-loop
-same-length-16 c = (after-turn (search) .turn .kept .1 .1 .1 .0) ∙ (stretch-from-turn-arg (search) .stretch .kept .1 .1 .1 .0) ∙ same-lengths _ _ _ _ ((loop-from-turn-arg (search) .loop .inv) .begun) ((loop-from-turn-arg (search) .loop .inv) .stands) .axis-same
+same-length-16 c = (after-turn-apart (search) .turn-apart .kept .1 .1 .1 .0) ∙ (stretch-from-enum-told2 (search) .stretch .kept .1 .1 .1 .0) ∙ same-lengths _ _ _ _ ((loop-from-enum-told2 (search) .loop .inv) .begun) ((loop-from-enum-told2 (search) .loop .inv) .stands) .axis-same
 
 same-length-17 : tie.Need-same-length-17 Inv-loop μ-loop
-same-length-17 c = (after-turn (search) .turn .kept .1 .1 .1 .1 .0) ∙ (stretch-from-turn-arg (search) .stretch .kept .1 .1 .1 .1 .0) ∙ same-lengths _ _ _ _ ((loop-from-turn-arg (search) .loop .inv) .begun) ((loop-from-turn-arg (search) .loop .inv) .stands) .times-same
+same-length-17 c = (after-turn-apart (search) .turn-apart .kept .1 .1 .1 .1 .0) ∙ (stretch-from-enum-told2 (search) .stretch .kept .1 .1 .1 .1 .0) ∙ same-lengths _ _ _ _ ((loop-from-enum-told2 (search) .loop .inv) .begun) ((loop-from-enum-told2 (search) .loop .inv) .stands) .times-same
 
 same-length-18 : tie.Need-same-length-18 Inv-loop μ-loop
-same-length-18 c = (after-turn (search) .turn .kept .1 .1 .1 .1 .1 .0) ∙ same-lengths _ _ _ _ ((loop-from-turn-arg (search) .loop .inv) .begun) ((loop-from-turn-arg (search) .loop .inv) .stands) .marks-same
+same-length-18 c = (after-turn-apart (search) .turn-apart .kept .1 .1 .1 .1 .1 .0) ∙ same-lengths _ _ _ _ ((loop-from-enum-told2 (search) .loop .inv) .begun) ((loop-from-enum-told2 (search) .loop .inv) .stands) .marks-same
 
 same-length-19 : tie.Need-same-length-19 Inv-loop μ-loop
-same-length-19 c = (after-turn (search) .turn .kept .1 .1 .1 .1 .1 .1 .0) ∙ (stretch-from-turn-arg (search) .stretch .kept .1 .1 .1 .1 .1 .1 .0) ∙ same-lengths _ _ _ _ ((loop-from-turn-arg (search) .loop .inv) .begun) ((loop-from-turn-arg (search) .loop .inv) .stands) .positions-same
+same-length-19 c = (after-turn-apart (search) .turn-apart .kept .1 .1 .1 .1 .1 .1 .0) ∙ (stretch-from-enum-told2 (search) .stretch .kept .1 .1 .1 .1 .1 .1 .0) ∙ same-lengths _ _ _ _ ((loop-from-enum-told2 (search) .loop .inv) .begun) ((loop-from-enum-told2 (search) .loop .inv) .stands) .positions-same
 
 same-length-20 : tie.Need-same-length-20 Inv-loop μ-loop
-same-length-20 c = (after-turn (search) .turn .kept .1 .1 .1 .1 .1 .1 .1 .0) ∙ (stretch-from-turn-arg (search) .stretch .kept .1 .1 .1 .1 .1 .1 .1 .0) ∙ same-lengths _ _ _ _ ((loop-from-turn-arg (search) .loop .inv) .begun) ((loop-from-turn-arg (search) .loop .inv) .stands) .words-same
+same-length-20 c = (stretch-from-enum-told2 (search) .stretch .kept .1 .1 .1 .1 .1 .1 .1 .0) ∙ same-lengths _ _ _ _ ((loop-from-enum-told2 (search) .loop .inv) .begun) ((loop-from-enum-told2 (search) .loop .inv) .stands) .words-same
 
 same-length-21 : tie.Need-same-length-21 Inv-loop μ-loop
-same-length-21 c = (after-turn (search) .turn .kept .1 .1 .1 .1 .1 .1 .1 .1 .0) ∙ (stretch-from-turn-arg (search) .stretch .kept .1 .1 .1 .1 .1 .1 .1 .1 .0) ∙ (loop-from-turn-arg (search) .loop .inv) .size
+same-length-21 c = (after-turn-apart (search) .turn-apart .kept .1 .1 .1 .1 .1 .1 .1 .1 .0) ∙ (stretch-from-enum-told2 (search) .stretch .kept .1 .1 .1 .1 .1 .1 .1 .1 .0) ∙ (loop-from-enum-told2 (search) .loop .inv) .size
 
 returns-3 : tie.Need-returns-3 Inv-loop μ-loop
-returns-3 c = turned-refused _ _ _ _ _ _ _ _ _ (due-on _ _ _ _ _ _ _ _ _ (loop-from-turn-arg (search) .loop .inv) _ _ _ (stretch-from-turn-arg (search) .stretch .ensures) (ap isDue (enum-told2-from-turn-arg (search) .enum-told2 .given .1))) (due-room _ _ _ _ _ _ _ _ _ (loop-from-turn-arg (search) .loop .inv) _ _ _ (stretch-from-turn-arg (search) .stretch .ensures) (ap isDue (enum-told2-from-turn-arg (search) .enum-told2 .given .1))) _ (after-turn (search) .turn .ensures) _ (c .count3 .ensures) _ (c .before .before .q .given .1)
+returns-3 c = turned-refused _ _ _ _ _ _ _ _ _ (due-on _ _ _ _ _ _ _ _ _ (loop-from-enum-told2 (search) .loop .inv) _ _ _ (stretch-from-enum-told2 (search) .stretch .ensures) (ap isDue (after-enum-told2 (search) .enum-told2 .given .1))) (due-room _ _ _ _ _ _ _ _ _ (loop-from-enum-told2 (search) .loop .inv) _ _ _ (stretch-from-enum-told2 (search) .stretch .ensures) (ap isDue (after-enum-told2 (search) .enum-told2 .given .1))) _ (after-turn-apart (search) .turn-apart .ensures) _ (c .count3 .ensures) _ (c .before .before .q .given .1)
 
 enum-told-4 : tie.Need-enum-told-4 Inv-loop μ-loop
 enum-told-4 c = search needs
 
 add-n : tie.Need-add-n Inv-loop μ-loop
-add-n c = omega (arith, few-lines _ _ _ _ _ _ _ _ _ (loop-from-turn-arg (search) .loop .inv) _ _ _ (stretch-from-turn-arg (search) .stretch .ensures))
+add-n c = omega (arith, few-lines _ _ _ _ _ _ _ _ _ (loop-from-enum-told2 (search) .loop .inv) _ _ _ (stretch-from-enum-told2 (search) .stretch .ensures))
 
 loop-less-2 : tie.Need-loop-less-2 Inv-loop μ-loop
-loop-less-2 c = omega (arith, in-loop-from-turn-arg (search) .loop-test .taken, (stretch-from-turn-arg (search) .stretch .ensures) .more, due-room _ _ _ _ _ _ _ _ _ (loop-from-turn-arg (search) .loop .inv) _ _ _ (stretch-from-turn-arg (search) .stretch .ensures) (ap isDue (after-enum-told2 (search) .enum-told2 .given .1)))
+loop-less-2 c = omega (arith, in-loop-from-enum-told2 (search) .loop-test .taken, (stretch-from-enum-told2 (search) .stretch .ensures) .more, due-room _ _ _ _ _ _ _ _ _ (loop-from-enum-told2 (search) .loop .inv) _ _ _ (stretch-from-enum-told2 (search) .stretch .ensures) (ap isDue (after-enum-told2 (search) .enum-told2 .given .1)))
 
 loop-again-2 : tie.Need-loop-again-2 Inv-loop μ-loop
-loop-again-2 c = turned-made _ _ _ _ _ _ _ _ _ (due-on _ _ _ _ _ _ _ _ _ (loop-from-turn-arg (search) .loop .inv) _ _ _ (stretch-from-turn-arg (search) .stretch .ensures) (ap isDue (after-enum-told2 (search) .enum-told2 .given .1))) (due-room _ _ _ _ _ _ _ _ _ (loop-from-turn-arg (search) .loop .inv) _ _ _ (stretch-from-turn-arg (search) .stretch .ensures) (ap isDue (after-enum-told2 (search) .enum-told2 .given .1))) _ (after-turn (search) .turn .ensures) (c .enum-told4 .given .1) (after-turn (search) .turn .kept .1 .1 .1 .1 .1 .1 .1 .1 .0)
+loop-again-2 c = turned-made _ _ _ _ _ _ _ _ _ (due-on _ _ _ _ _ _ _ _ _ (loop-from-enum-told2 (search) .loop .inv) _ _ _ (stretch-from-enum-told2 (search) .stretch .ensures) (ap isDue (after-enum-told2 (search) .enum-told2 .given .1))) (due-room _ _ _ _ _ _ _ _ _ (loop-from-enum-told2 (search) .loop .inv) _ _ _ (stretch-from-enum-told2 (search) .stretch .ensures) (ap isDue (after-enum-told2 (search) .enum-told2 .given .1))) _ (after-turn-apart (search) .turn-apart .ensures) (c .enum-told4 .given .1) (after-turn-apart (search) .turn-apart .kept .1 .1 .1 .1 .1 .1 .1 .1 .0)
 
 place-now-requires : tie.Need-place-now-requires Inv-loop μ-loop
 place-now-requires c κs = its-judged _ _ _ ((c .before .before .loop .inv) .stands)
@@ -272,7 +272,8 @@ turns-spec =
     same-length-7
     returns
     enum-told-2
-    turn-requires
+    mul-turn-apart
+    turn-apart-requires
     enum-told-3
     count-requires-2
     same-length-8
