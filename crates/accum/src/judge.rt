@@ -6,6 +6,8 @@ use model::answer::Answer;
 use model::verdict::Verdict;
 use model_judge::judge_tables;
 use ring::wide;
+use simulation_axis::first;
+use simulation_axis::time_at;
 ghost use mathlib.Core.Path.{_≡_};
 ghost use Rattle.model_laws.specs.Ready.{Ready};
 ghost use Rattle.model_laws.specs.Now.{half, timeOf};
@@ -16,9 +18,9 @@ pub(crate) fn time_of(c: Counts, links: &[u32], axis: &[u32], times: &[u64], mar
     requires { ⌜ Ready c (record { links = now links; axis = now axis; times = now times; marks = now marks }) ⌝ }
     ensures { λ r. ⌜ r ≡ timeOf (half c) (now (axis .entry)) (now (times .entry)) ⌝ }
 {
-    let head = wide(c.processes) + 1;
-    let first = wide(axis[head]);
-    times[first]
+    let m = wide(c.processes) + 2;
+    let f = wide(first(axis, m));
+    time_at(times, f)
 }
 
 // May a list have this many accumulators?

@@ -1,5 +1,5 @@
 -- What the calls' code promises, by the way it took: each answer from the tests that led to it.
-use Prim.Native.Nat.{ℕ, _+_, _*_, _^_, _≤_, _<_}
+use Prim.Native.Nat.{ℕ, _+_, _*_, _≤_, _<_}
 use mathlib.Core.Path.{_≡_, refl, sym, ap, _∙_}
 use mathlib.Core.Bool.{Bool, true, false, not}
 use mathlib.Core.List.{List}
@@ -39,19 +39,16 @@ module _ (x : Accumulator) (t : ℕ) (d : ℤ) (u : Updated) (e : u ≡ updatedO
   unfolding accumOne
   one-not r q = sym (ap (λ (w : Updated). keptOf w x) (sym e ∙ q))
 
--- the place of the first notice, read behind the axis's head
-module _ (c : Counts) (t : Tables) (r : Ready c t) (p i : ℕ) (e : p ≡ c .processes) (f : i ≡ getD (t .axis) (p + 1) 0) where
+-- the place of the first notice, and the time there
+module _ (c : Counts) (t : Tables) (r : Ready c t) (p f i : ℕ) (e : p ≡ c .processes) (g : f ≡ firstOf (p + 2) (t .axis)) (w : i ≡ f) where
   first : i ≡ firstOf (half c) (t .axis)
-  first = f ∙ ap (λ (n : ℕ). getD (t .axis) n 0) (omega arith)
+  first = w ∙ g ∙ ap (λ (n : ℕ). firstOf (n + 2) (t .axis)) e
 
   pub first-at : i < length (t .times)
   first-at = omega (arith, first, r .first-in, r .lengths .times-is)
 
-  pub first-fits : i * 8 < 2 ^ 64
-  first-fits = omega (arith, first, r .first-in, r .allowed .processes-in)
-
-  pub time-is : getD (t .times) i 0 ≡ timeOf (half c) (t .axis) (t .times)
-  time-is = ap (λ (n : ℕ). getD (t .times) n 0) first
+  pub time-is : (v : ℕ) → v ≡ getD (t .times) i 0 → v ≡ timeOf (half c) (t .axis) (t .times)
+  time-is v q = q ∙ ap (λ (n : ℕ). getD (t .times) n 0) first
 
 -- the time of a judged model is within the limit
 pub time-in : (c : Counts) (t : Tables) (n : ℕ) → judged c t ≡ Fine → n ≡ timeOf (half c) (t .axis) (t .times) → n ≤ limit

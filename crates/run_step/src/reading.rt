@@ -6,6 +6,8 @@ use sheet::records::record_offset;
 use sheet::records::x_at;
 use sheet::records::y_at;
 use simset::procedures::link_or;
+use simulation_axis::first;
+use simulation_axis::time_at;
 ghost use mathlib.Core.Path.{_≡_};
 ghost use mathlib.Core.Logic.{_≢_};
 ghost use mathlib.Core.Bool.{true, _&&_};
@@ -25,7 +27,7 @@ pub fn place_now(c: Counts, axis: &[u32]) -> u32
     requires { ⌜ Judged c (now axis) ⌝ }
     ensures { λ r. ⌜ r ≡ firstOf (half c) (now (axis .entry)) ⌝ }
 {
-    axis[wide(c.processes) + 1]
+    first(axis, wide(c.processes) + 2)
 }
 
 // The time of the notice at a place.
@@ -33,8 +35,7 @@ pub fn time_of(times: &[u64], f: u32) -> u64
     requires { ⌜ f < length (now times) ⌝ }
     ensures { λ r. ⌜ r ≡ getD (now (times .entry)) f 0 ⌝ }
 {
-    let p = wide(f);
-    times[p]
+    time_at(times, wide(f))
 }
 
 // Where the process at a place is.

@@ -3,10 +3,11 @@ use model::Counts;
 use model::Refusal;
 use model::answer::Answer;
 use ring::wide;
-use simulation::axis::due;
-use simulation::axis::first;
 use simulation::axis::mark_at;
 use simulation::steps::current_link;
+use simulation_axis::due;
+use simulation_axis::first;
+use simulation_axis::next;
 ghost use mathlib.Core.Path.{_≡_};
 ghost use Prim.Native.Nat.{_+_};
 ghost use Rattle.simulation_laws.specs.Calls.{currentTold, timeTold, idleTold, terminatedTold, evtimeTold, nextevTold};
@@ -38,8 +39,9 @@ pub fn idle(c: Counts, axis: &[u32], times: &[u64], x: u32) -> Answer
     if !ok {
         return Answer::Refused(Refusal::Operand);
     }
-    let q = wide(c.place_of(x));
-    Answer::Truth(axis[q] == 0)
+    let m = wide(c.processes) + 2;
+    let q = c.place_of(x);
+    Answer::Truth(simulation_axis::idle(axis, m, q))
 }
 
 pub fn terminated(c: Counts, marks: &[u8], x: u32) -> Answer
@@ -61,11 +63,12 @@ pub fn evtime(c: Counts, axis: &[u32], times: &[u64], x: u32) -> Answer
     if !ok {
         return Answer::Refused(Refusal::Operand);
     }
-    let q = wide(c.place_of(x));
-    if axis[q] == 0 {
+    let m = wide(c.processes) + 2;
+    let q = c.place_of(x);
+    if simulation_axis::idle(axis, m, q) {
         return Answer::Refused(Refusal::Idle);
     }
-    Answer::Number(due(times, q))
+    Answer::Number(due(times, wide(q)))
 }
 
 pub fn nextev(c: Counts, axis: &[u32], times: &[u64], x: u32) -> Answer
@@ -76,13 +79,13 @@ pub fn nextev(c: Counts, axis: &[u32], times: &[u64], x: u32) -> Answer
     if !ok {
         return Answer::Refused(Refusal::Operand);
     }
-    let q = wide(c.place_of(x));
-    let s = axis[q];
-    if s == 0 {
+    let m = wide(c.processes) + 2;
+    let q = c.place_of(x);
+    if simulation_axis::idle(axis, m, q) {
         return Answer::Linkage(0);
     }
-    let p = wide(c.processes);
-    if wide(s) == p + 1 {
+    let s = next(axis, m, q);
+    if wide(s) == m - 1 {
         return Answer::Linkage(0);
     }
     Answer::Linkage(current_link(c, s))

@@ -9,10 +9,9 @@ use borrow.Author.Tests.{lt-leb}
 use Rattle.model.specs.declared.Counts.{Counts}
 use Rattle.model.specs.declared.Refusal.the-variants.{Operand, TimeLimit}
 use Rattle.model.specs.Counts.{limit, isProcess, placeOf}
-use Rattle.ring_laws.specs.Table.{Sound}
 use Rattle.model.specs.declared.answer.Answer.{Answer}
 use Rattle.model.specs.declared.answer.Answer.the-variants.{Done, Refused}
-use Rattle.model_laws.specs.Now.{half}
+use Rattle.model_laws.specs.Now.{AxisSound, half}
 use Rattle.simset_laws.specs.Calls.{orNone}
 use Rattle.simulation_laws.specs.Plain.{above}
 use Rattle.simulation_laws.specs.Procedures.{putByClause, activated}
@@ -33,7 +32,7 @@ active-now m x f time a t marks v va e n a′ t′ l =
 
 -- or that and the delay
 module _ (m x f time d : ℕ) (a t marks : List ℕ) (v : Bool) (va : Vain false 2 x 0 marks a v) (e : v ≡ false) (n : Noticed m f time a t) where
-  pub late-5 : Sound m a → limit - time < d → Answers m (activated m false 2 x 0 d marks (sqs a t)) a t (Refused TimeLimit)
+  pub late-5 : AxisSound m a → limit - time < d → Answers m (activated m false 2 x 0 d marks (sqs a t)) a t (Refused TimeLimit)
   late-5 s l =
       active-5 m a t false 2 x 0 d marks v va e f f time (suc limit) (n .place) refl (n .read)
       (due-two 2 0 d time t (suc limit) refl (sym (capped-over (time + d) (omega (arith, n .within)))))
@@ -49,7 +48,7 @@ module _ (m x f time d : ℕ) (a t marks : List ℕ) (v : Bool) (va : Vain false
 
 module _ (c : Counts) (x : ℕ) (axis times marks : List ℕ) (ok : Bool) (is : ok ≡ orNone (isProcess c x) x) (k : ℕ) (low : k < 5) (t : ℤ) where
   -- X is no process
-  pub soon-3 : Sound (half c) axis → not ok ≡ true → Answers (half c) (timedStep c false k x 0 t marks (sqs axis times)) axis times (Refused Operand)
+  pub soon-3 : AxisSound (half c) axis → not ok ≡ true → Answers (half c) (timedStep c false k x 0 t marks (sqs axis times)) axis times (Refused Operand)
   unfolding timedStep
   soon-3 s n = refused-3 _ _ _ _ _ s (sym (need-x c k x 0 (omega arith) ok is n))
 

@@ -5,14 +5,14 @@ use mathlib.Core.Logic.{_≢_}
 use mathlib.Core.Bool.{Bool, true, false}
 use mathlib.Core.List.{List}
 use native.Mathlib.Numerals.{add-one}
-use lib.Dec.{eqb}
 use lib.ListN.{getD, set}
 use borrow.Author.Tests.{eq-eqb, ne-eqb, le-leb, lt-leb, lt-ltb, le-ltb}
-use Rattle.ring_laws.specs.Table.{Sound, Made, unlinked, linkedBehind}
+use Rattle.ring_laws.specs.Table.{Made, unlinked, linkedBehind}
 use Rattle.model.specs.Counts.{limit}
 use Rattle.model.specs.declared.Refusal.the-variants.{NoNotice, TimeLimit}
 use Rattle.model.specs.declared.answer.Answer.{Answer}
 use Rattle.model.specs.declared.answer.Answer.the-variants.{Done, Refused}
+use Rattle.model_laws.specs.Now.{AxisSound, firstOf, nextOf, prevOf, idleOn, timeOf}
 use Rattle.simulation_laws.specs.Procedures.{Sqs, made, found, dropOn, putOn, heldAt, held, passivated, cancelled, finishedMarks, dueAt, placeFor, putByClause, activated}
 use Rattle.simulation_laws.specs.Promise.{sqs, Left, Answers, AnswersMarked, Place, Stored, Read, Lone, Vain, Beside, Due, capped-in, capped-out}
 
@@ -46,16 +46,16 @@ module _ (m : ℕ) (a t : List ℕ) where
       }
 
   -- hold
-  module _ (x u c s : ℕ) (ec : c ≡ x) (es : s ≡ getD a c 0) where
-    at-x : getD a x 0 ≡ s
-    at-x = sym (es ∙ ap (λ (j : ℕ). getD a j 0) ec)
+  module _ (x u c s f : ℕ) (ec : c ≡ x) (pf : Place m (nextOf a x) f) (es : s ≡ f) where
+    at-x : nextOf a x ≡ s
+    at-x = sym (es ∙ pf .is)
 
-    pub held-last : (t′ : List ℕ) → Sound m a → s ≡ m - 1 → Stored c u t t′ → Left m (heldAt m x u (sqs a t)) a t′
+    pub held-last : (t′ : List ℕ) → AxisSound m a → s ≡ m - 1 → Stored c u t t′ → Left m (heldAt m x u (sqs a t)) a t′
     unfolding heldAt
     held-last t′ so e st =
         record { is = rw (at-x, eq-eqb s (m - 1) e, ← ec) (ap (λ (j : List ℕ). sqs a j) (st .is)); sound = so }
 
-    pub held-soon : (y : ℕ) (t′ : List ℕ) → Sound m a → s ≢ m - 1 → Read s t y → u < y → Stored c u t t′ → Left m (heldAt m x u (sqs a t)) a t′
+    pub held-soon : (y : ℕ) (t′ : List ℕ) → AxisSound m a → s ≢ m - 1 → Read s t y → u < y → Stored c u t t′ → Left m (heldAt m x u (sqs a t)) a t′
     unfolding heldAt
     held-soon y t′ so n r l st =
         record { is = rw (at-x, ne-eqb s (m - 1) n, lt-ltb u (getD t s 0) (rw (r .is) at l), ← ec) (ap (λ (j : List ℕ). sqs a j) (st .is)); sound = so }
@@ -71,11 +71,11 @@ module _ (m : ℕ) (a t : List ℕ) where
           sound = k .sound;
         }
 
-  module _ (d x z y : ℕ) (px : Place m (getD a (m - 1) 0) x) (ez : z ≡ x) (r : Read z t y) where
-    the-time : getD t (getD a (m - 1) 0) 0 ≡ y
+  module _ (d x z y : ℕ) (px : Place m (firstOf m a) x) (ez : z ≡ x) (r : Read z t y) where
+    the-time : timeOf m a t ≡ y
     the-time = sym (r .is ∙ ap (λ (j : ℕ). getD t j 0) (ez ∙ px .is))
 
-    pub hold-5 : Sound m a → limit < y + d → Answers m (held m d (sqs a t)) a t (Refused TimeLimit)
+    pub hold-5 : AxisSound m a → limit < y + d → Answers m (held m d (sqs a t)) a t (Refused TimeLimit)
     unfolding held
     hold-5 so l = record { is = rw (the-time, lt-leb (y + d) limit l); sound = so }
 
@@ -85,20 +85,20 @@ module _ (m : ℕ) (a t : List ℕ) where
 
   -- passivate, cancel, finish
   module _ (r : Bool) (lo : Lone m a r) where
-    pub passive-4 : Sound m a → r ≡ true → Answers m (passivated m (sqs a t)) a t (Refused NoNotice)
+    pub passive-4 : AxisSound m a → r ≡ true → Answers m (passivated m (sqs a t)) a t (Refused NoNotice)
     unfolding passivated
     passive-4 so e = record { is = rw (sym (lo .is) ∙ e); sound = so }
 
-    pub passive-0 : (x : ℕ) (a′ t′ : List ℕ) → r ≡ false → Place m (getD a (m - 1) 0) x → Left m (dropOn m x (sqs a t)) a′ t′
+    pub passive-0 : (x : ℕ) (a′ t′ : List ℕ) → r ≡ false → Place m (firstOf m a) x → Left m (dropOn m x (sqs a t)) a′ t′
         → Answers m (passivated m (sqs a t)) a′ t′ Done
     unfolding passivated
     passive-0 x a′ t′ e p k = record { is = rw (sym (lo .is) ∙ e, ← (p .is)) (ap made (k .is)); sound = k .sound }
 
-    pub finish-4 : (marks : List ℕ) → Sound m a → r ≡ true → AnswersMarked m (passivated m (sqs a t)) (finishedMarks m marks (sqs a t)) a t marks (Refused NoNotice)
+    pub finish-4 : (marks : List ℕ) → AxisSound m a → r ≡ true → AnswersMarked m (passivated m (sqs a t)) (finishedMarks m marks (sqs a t)) a t marks (Refused NoNotice)
     unfolding finishedMarks
     finish-4 marks so e = record { is = passive-4 so e .is; sound = so; marked = rw (sym (lo .is) ∙ e) }
 
-    pub finish-0 : (x z : ℕ) (marks marks′ a′ t′ : List ℕ) → r ≡ false → Place m (getD a (m - 1) 0) x → z ≡ x → Stored z 1 marks marks′
+    pub finish-0 : (x z : ℕ) (marks marks′ a′ t′ : List ℕ) → r ≡ false → Place m (firstOf m a) x → z ≡ x → Stored z 1 marks marks′
         → Left m (dropOn m x (sqs a t)) a′ t′ → AnswersMarked m (passivated m (sqs a t)) (finishedMarks m marks (sqs a t)) a′ t′ marks′ Done
     unfolding finishedMarks
     finish-0 x z marks marks′ a′ t′ e p ez s k =
@@ -108,27 +108,25 @@ module _ (m : ℕ) (a t : List ℕ) where
           marked = rw (sym (lo .is) ∙ e, ← (p .is), ← ez) (s .is);
         }
 
-  module _ (x c : ℕ) (ec : c ≡ x) where
-    pub cancel-idle : Sound m a → getD a c 0 ≡ 0 → Answers m (cancelled m x (sqs a t)) a t Done
+  module _ (x : ℕ) (b : Bool) (is : b ≡ idleOn a x) where
+    pub cancel-idle : AxisSound m a → b ≡ true → Answers m (cancelled m x (sqs a t)) a t Done
     unfolding cancelled
-    cancel-idle so e = record { is = rw (← ec, eq-eqb (getD a c 0) 0 e); sound = so }
+    cancel-idle so e = record { is = rw (sym is ∙ e); sound = so }
 
-    pub cancel-4 : (r : Bool) → Sound m a → getD a c 0 ≢ 0 → Lone m a r → r ≡ true → Answers m (cancelled m x (sqs a t)) a t (Refused NoNotice)
+    pub cancel-4 : (r : Bool) → AxisSound m a → b ≡ false → Lone m a r → r ≡ true → Answers m (cancelled m x (sqs a t)) a t (Refused NoNotice)
     unfolding cancelled
-    cancel-4 r so n lo e = record { is = rw (← ec, ne-eqb (getD a c 0) 0 n, sym (lo .is) ∙ e); sound = so }
+    cancel-4 r so n lo e = record { is = rw (sym is ∙ n, sym (lo .is) ∙ e); sound = so }
 
-    pub cancel-0 : (r : Bool) (a′ t′ : List ℕ) → getD a c 0 ≢ 0 → Lone m a r → r ≡ false → Left m (dropOn m x (sqs a t)) a′ t′
+    pub cancel-0 : (r : Bool) (a′ t′ : List ℕ) → b ≡ false → Lone m a r → r ≡ false → Left m (dropOn m x (sqs a t)) a′ t′
         → Answers m (cancelled m x (sqs a t)) a′ t′ Done
     unfolding cancelled
-    cancel-0 r a′ t′ n lo e k =
-        let g : eqb (getD a x 0) 0 ≡ false = rw ec at (ne-eqb (getD a c 0) 0 n) in
-        record { is = rw (g, sym (lo .is) ∙ e) (ap made (k .is)); sound = k .sound }
+    cancel-0 r a′ t′ n lo e k = record { is = rw (sym is ∙ n, sym (lo .is) ∙ e) (ap made (k .is)); sound = k .sound }
 
   -- where the new notice stands
   module _ (k y now u : ℕ) where
-    pub place-5 : (z : ℕ) → Sound m a → k ≡ 5 → z ≡ y → Place m (placeFor m k y now u (sqs a t)) (getD a (m + z) 0)
+    pub place-5 : (q : ℕ) → k ≡ 5 → Place m (prevOf m a y) q → Place m (placeFor m k y now u (sqs a t)) q
     unfolding placeFor
-    place-5 z so e ez = record { is = rw (eq-eqb k 5 e, ez); within = so .inside _ }
+    place-5 q e p = record { is = rw (eq-eqb k 5 e) (p .is); within = p .within }
 
     pub place-6 : y < m → k ≡ 6 → Place m (placeFor m k y now u (sqs a t)) y
     unfolding placeFor
@@ -153,15 +151,15 @@ module _ (m : ℕ) (a t : List ℕ) where
 
   -- ACTIVATE
   module _ (again : Bool) (k x y d : ℕ) (marks : List ℕ) (v : Bool) (va : Vain again k x y marks a v) where
-    pub vain-0 : Sound m a → v ≡ true → Answers m (activated m again k x y d marks (sqs a t)) a t Done
+    pub vain-0 : AxisSound m a → v ≡ true → Answers m (activated m again k x y d marks (sqs a t)) a t Done
     unfolding activated
     vain-0 so e = record { is = rw (sym (va .is) ∙ e); sound = so }
 
-    module _ (e : v ≡ false) (p z w u : ℕ) (px : Place m (getD a (m - 1) 0) p) (ez : z ≡ p) (r : Read z t w) (du : Due k y d w t u) where
-      now-is : getD t (getD a (m - 1) 0) 0 ≡ w
+    module _ (e : v ≡ false) (p z w u : ℕ) (px : Place m (firstOf m a) p) (ez : z ≡ p) (r : Read z t w) (du : Due k y d w t u) where
+      now-is : timeOf m a t ≡ w
       now-is = sym (r .is ∙ ap (λ (j : ℕ). getD t j 0) (ez ∙ px .is))
 
-      pub active-5 : Sound m a → limit < u → Answers m (activated m again k x y d marks (sqs a t)) a t (Refused TimeLimit)
+      pub active-5 : AxisSound m a → limit < u → Answers m (activated m again k x y d marks (sqs a t)) a t (Refused TimeLimit)
       unfolding activated
       active-5 so l = record { is = rw (sym (va .is) ∙ e, now-is, lt-leb (dueAt k y d w t) limit (capped-out (dueAt k y d w t) u (du .is) l)); sound = so }
 

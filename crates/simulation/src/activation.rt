@@ -1,20 +1,22 @@
 // ACTIVATE on sound tables: no effect, refusals 4 and 5, or the new notice where its clause says.
 use crate::axis::drop;
-use crate::axis::due;
-use crate::axis::first;
 use crate::axis::mark_at;
 use crate::axis::plus;
 use crate::axis::put;
-use crate::axis::seek;
 use crate::procedures::cancel;
 use model::Refusal;
 use model::TIME_LIMIT;
 use model::answer::Answer;
 use ring::wide;
+use simulation_axis::due;
+use simulation_axis::first;
+use simulation_axis::idle;
+use simulation_axis::prev;
+use simulation_axis::seek;
 ghost use mathlib.Core.Path.{_≡_};
 ghost use Prim.Native.Nat.{_+_, _<_, _≤_};
-ghost use Rattle.ring_laws.specs.Table.{Sound};
 ghost use Rattle.model.specs.Counts.{limit};
+ghost use Rattle.model_laws.specs.Now.{AxisSound};
 ghost use Rattle.simulation_laws.specs.Procedures.{placeFor, putByClause, activated};
 ghost use Rattle.simulation_laws.specs.Plain.{above};
 ghost use Rattle.simulation_laws.specs.Promise.{sqs, Left, Answers, Place, Vain, Beside, Due};
@@ -29,18 +31,17 @@ pub(crate) fn is_vain(
     x: u32,
     y: u32,
 ) -> bool
-    requires { ⌜ Sound m (now axis) ⌝ }
+    requires { ⌜ AxisSound m (now axis) ⌝ }
     requires { ⌜ x < m ⌝ }
     ensures { λ r. ⌜ Vain again k x y (now (marks .entry)) (now (axis .entry)) r ⌝ }
 {
     if x == 0 {
         return true;
     }
-    let i = wide(x);
-    if mark_at(marks, i) != 0 {
+    if mark_at(marks, wide(x)) != 0 {
         return true;
     }
-    if axis[i] == 0 {
+    if idle(axis, m, x) {
         return false;
     }
     if !again {
@@ -76,15 +77,14 @@ pub(crate) fn due_at(times: &[u64], k: u8, y: u32, d: u64, time: u64) -> u64
 
 // Whether the clause is before or after, and Y is idle.
 pub(crate) fn beside_idle(axis: &[u32], m: usize, k: u8, y: u32) -> bool
-    requires { ⌜ Sound m (now axis) ⌝ }
+    requires { ⌜ AxisSound m (now axis) ⌝ }
     requires { ⌜ y < m ⌝ }
     ensures { λ r. ⌜ Beside k y (now (axis .entry)) r ⌝ }
 {
     if k < 5 {
         return false;
     }
-    let i = wide(y);
-    axis[i] == 0
+    idle(axis, m, y)
 }
 
 // Behind which place the new notice stands.
@@ -97,15 +97,14 @@ pub(crate) fn place_for(
     time: u64,
     u: u64,
 ) -> u32
-    requires { ⌜ Sound m (now axis) ⌝ }
+    requires { ⌜ AxisSound m (now axis) ⌝ }
     requires { ⌜ y < m ⌝ }
     requires { ⌜ m ≤ 1026 ⌝ }
     requires { ⌜ u ≤ limit ⌝ }
     ensures { λ r. ⌜ Place m (placeFor m k y time u (sqs (now (axis .entry)) (now (times .entry)))) r ⌝ }
 {
     if k == 5 {
-        let i = wide(y);
-        return axis[m + i];
+        return prev(axis, m, y);
     }
     if k == 6 {
         return y;
@@ -133,7 +132,7 @@ pub(crate) fn schedule(
     time: u64,
     u: u64,
 )
-    requires { ⌜ Sound m (now axis) ⌝ }
+    requires { ⌜ AxisSound m (now axis) ⌝ }
     requires { ⌜ x < m ⌝ }
     requires { ⌜ y < m ⌝ }
     requires { ⌜ m ≤ 1026 ⌝ }
@@ -157,7 +156,7 @@ pub(crate) fn activate(
     y: u32,
     d: u64,
 ) -> Answer
-    requires { ⌜ Sound m (now axis) ⌝ }
+    requires { ⌜ AxisSound m (now axis) ⌝ }
     requires { ⌜ x < m ⌝ }
     requires { ⌜ y < m ⌝ }
     requires { ⌜ m ≤ 1026 ⌝ }

@@ -1,33 +1,16 @@
-// Reading and changing the sequencing set on lent tables: m is P + 2, the axis's own head stands at m - 1.
+// Changing the sequencing set on lent tables: m is P + 2, the axis's own head stands at m - 1. What reads it is in simulation_axis.
 use model::TIME_LIMIT;
 use ring::link_behind;
 use ring::unlink;
 use ring::unlink_behind;
 use ring::wide;
+use simulation_axis::seek;
 ghost use mathlib.Core.Path.{_≡_};
 ghost use Prim.Native.Nat.{_+_, _-_, _<_, _≤_};
-ghost use lib.ListN.{length, getD};
-ghost use Rattle.ring_laws.specs.Table.{Sound};
+ghost use lib.ListN.{length};
+ghost use Rattle.model_laws.specs.Now.{AxisSound};
 ghost use Rattle.simulation_laws.specs.Procedures.{found, dropOn, putOn};
-ghost use Rattle.simulation_laws.specs.Promise.{sqs, Left, Place, Read, Stored, Lone, First, capped};
-
-// The time at a place, 0 past the table's end.
-pub fn due(times: &[u64], i: usize) -> u64
-    ensures { λ r. ⌜ Read i (now (times .entry)) r ⌝ }
-{
-    if i >= times.len() {
-        return 0;
-    }
-    times[i]
-}
-
-// The same at a place of the table, with no test.
-pub(crate) fn time_at(times: &[u64], i: usize) -> u64
-    requires { ⌜ i < length (now times) ⌝ }
-    ensures { λ r. ⌜ Read i (now (times .entry)) r ⌝ }
-{
-    times[i]
-}
+ghost use Rattle.simulation_laws.specs.Promise.{sqs, Left, Read, Stored, First, capped};
 
 // The mark at a place.
 pub fn mark_at(marks: &[u8], i: usize) -> u8
@@ -79,37 +62,9 @@ pub(crate) fn plus(a: u64, b: u64) -> u64
     a + b
 }
 
-// The same place, looked for from both ends at once.
-pub(crate) fn seek(axis: &[u32], m: usize, times: &[u64], w: u64) -> u32
-    requires { ⌜ Sound m (now axis) ⌝ }
-    ensures { λ r. ⌜ Place m (found m w (sqs (now (axis .entry)) (now (times .entry)))) r ⌝ }
-{
-    let head = m - 1;
-    let mut f = axis[head];
-    let mut b = axis[m + head];
-    let mut n: usize = 0;
-    while n < m {
-        let q = wide(b);
-        if q == head {
-            return b;
-        }
-        if due(times, q) < w {
-            return b;
-        }
-        let p = wide(f);
-        if due(times, p) >= w {
-            return axis[m + p];
-        }
-        f = axis[p];
-        b = axis[m + q];
-        n += 1;
-    }
-    b
-}
-
 // Takes x's notice away.
 pub(crate) fn drop(axis: &mut [u32], m: usize, times: &mut [u64], x: u32)
-    requires { ⌜ Sound m (now axis) ⌝ }
+    requires { ⌜ AxisSound m (now axis) ⌝ }
     requires { ⌜ x < m ⌝ }
     ensures { λ _. ⌜ Left m (dropOn m x (sqs (now (axis .entry)) (now (times .entry)))) (now (axis .exit)) (now (times .exit)) ⌝ }
 {
@@ -127,7 +82,7 @@ fn own_head(m: usize) -> u32
 
 // Takes the first notice, x's, away.
 pub(crate) fn drop_first(axis: &mut [u32], m: usize, times: &mut [u64], x: u32)
-    requires { ⌜ Sound m (now axis) ⌝ }
+    requires { ⌜ AxisSound m (now axis) ⌝ }
     requires { ⌜ First m x (now axis) (now times) ⌝ }
     ensures { λ _. ⌜ Left m (dropOn m x (sqs (now (axis .entry)) (now (times .entry)))) (now (axis .exit)) (now (times .exit)) ⌝ }
 {
@@ -137,7 +92,7 @@ pub(crate) fn drop_first(axis: &mut [u32], m: usize, times: &mut [u64], x: u32)
 
 // A notice for x, which has none, at time u behind the place q.
 pub(crate) fn put(axis: &mut [u32], m: usize, times: &mut [u64], x: u32, q: u32, u: u64)
-    requires { ⌜ Sound m (now axis) ⌝ }
+    requires { ⌜ AxisSound m (now axis) ⌝ }
     requires { ⌜ x < m ⌝ }
     requires { ⌜ q < m ⌝ }
     ensures { λ _. ⌜ Left m (putOn m x q u (sqs (now (axis .entry)) (now (times .entry)))) (now (axis .exit)) (now (times .exit)) ⌝ }
@@ -146,26 +101,9 @@ pub(crate) fn put(axis: &mut [u32], m: usize, times: &mut [u64], x: u32, q: u32,
     store(times, wide(x), u);
 }
 
-// The place of the first notice.
-pub fn first(axis: &[u32], m: usize) -> u32
-    requires { ⌜ Sound m (now axis) ⌝ }
-    ensures { λ r. ⌜ Place m (getD (now (axis .entry)) (m - 1) 0) r ⌝ }
-{
-    axis[m - 1]
-}
-
-// Whether there is no second notice.
-pub(crate) fn lone(axis: &[u32], m: usize) -> bool
-    requires { ⌜ Sound m (now axis) ⌝ }
-    ensures { λ r. ⌜ Lone m (now (axis .entry)) r ⌝ }
-{
-    let c = wide(axis[m - 1]);
-    wide(axis[c]) == m - 1
-}
-
 // The first notice, x's, moves: at time u behind the last whose time is below w.
 pub(crate) fn move_to(axis: &mut [u32], m: usize, times: &mut [u64], x: u32, w: u64, u: u64)
-    requires { ⌜ Sound m (now axis) ⌝ }
+    requires { ⌜ AxisSound m (now axis) ⌝ }
     requires { ⌜ First m x (now axis) (now times) ⌝ }
     ensures { λ _. ⌜ Left m (putOn m x (found m w (dropOn m x (sqs (now (axis .entry)) (now (times .entry))))) u (dropOn m x (sqs (now (axis .entry)) (now (times .entry))))) (now (axis .exit)) (now (times .exit)) ⌝ }
 {

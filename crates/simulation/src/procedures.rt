@@ -1,32 +1,34 @@
 // Hold, passivate, cancel and finish on sound tables: refusals 4 and 5, or the published procedure.
 use crate::axis::drop;
 use crate::axis::drop_first;
-use crate::axis::due;
-use crate::axis::first;
-use crate::axis::lone;
 use crate::axis::mark;
 use crate::axis::move_to;
 use crate::axis::set_time;
-use crate::axis::time_at;
 use model::Refusal;
 use model::TIME_LIMIT;
 use model::answer::Answer;
 use ring::wide;
+use simulation_axis::due;
+use simulation_axis::first;
+use simulation_axis::idle;
+use simulation_axis::lone;
+use simulation_axis::next;
+use simulation_axis::time_at;
 ghost use Prim.Native.Nat.{_<_, _≤_};
-ghost use Rattle.ring_laws.specs.Table.{Sound};
 ghost use Rattle.model.specs.Counts.{limit};
+ghost use Rattle.model_laws.specs.Now.{AxisSound};
 ghost use Rattle.simulation_laws.specs.Procedures.{heldAt, held, passivated, cancelled, finishedMarks};
 ghost use Rattle.simulation_laws.specs.Promise.{sqs, Left, Answers, AnswersMarked, First, Led, Noticed};
 
 // x's notice gets the time u; where the next is due by then, it goes behind all due by then.
 pub(crate) fn hold_at(axis: &mut [u32], m: usize, times: &mut [u64], x: u32, u: u64)
-    requires { ⌜ Sound m (now axis) ⌝ }
+    requires { ⌜ AxisSound m (now axis) ⌝ }
     requires { ⌜ First m x (now axis) (now times) ⌝ }
     requires { ⌜ u ≤ limit ⌝ }
     ensures { λ _. ⌜ Left m (heldAt m x u (sqs (now (axis .entry)) (now (times .entry)))) (now (axis .exit)) (now (times .exit)) ⌝ }
 {
     let c = wide(x);
-    let s = wide(axis[c]);
+    let s = wide(next(axis, m, x));
     if s == m - 1 {
         set_time(times, c, u);
         return;
@@ -47,7 +49,7 @@ pub(crate) fn hold_first(
     time: u64,
     d: u64,
 ) -> Answer
-    requires { ⌜ Sound m (now axis) ⌝ }
+    requires { ⌜ AxisSound m (now axis) ⌝ }
     requires { ⌜ Led m (now axis) (now times) ⌝ }
     requires { ⌜ Noticed m x time (now axis) (now times) ⌝ }
     ensures { λ r. ⌜ Answers m (held m d (sqs (now (axis .entry)) (now (times .entry)))) (now (axis .exit)) (now (times .exit)) r ⌝ }
@@ -61,7 +63,7 @@ pub(crate) fn hold_first(
 
 // Hold.
 pub(crate) fn hold(axis: &mut [u32], m: usize, times: &mut [u64], d: u64) -> Answer
-    requires { ⌜ Sound m (now axis) ⌝ }
+    requires { ⌜ AxisSound m (now axis) ⌝ }
     requires { ⌜ Led m (now axis) (now times) ⌝ }
     ensures { λ r. ⌜ Answers m (held m d (sqs (now (axis .entry)) (now (times .entry)))) (now (axis .exit)) (now (times .exit)) r ⌝ }
 {
@@ -75,7 +77,7 @@ pub(crate) fn hold(axis: &mut [u32], m: usize, times: &mut [u64], d: u64) -> Ans
 
 // Passivate.
 pub(crate) fn passivate(axis: &mut [u32], m: usize, times: &mut [u64]) -> Answer
-    requires { ⌜ Sound m (now axis) ⌝ }
+    requires { ⌜ AxisSound m (now axis) ⌝ }
     requires { ⌜ Led m (now axis) (now times) ⌝ }
     ensures { λ r. ⌜ Answers m (passivated m (sqs (now (axis .entry)) (now (times .entry)))) (now (axis .exit)) (now (times .exit)) r ⌝ }
 {
@@ -89,12 +91,11 @@ pub(crate) fn passivate(axis: &mut [u32], m: usize, times: &mut [u64]) -> Answer
 
 // Cancel.
 pub(crate) fn cancel(axis: &mut [u32], m: usize, times: &mut [u64], x: u32) -> Answer
-    requires { ⌜ Sound m (now axis) ⌝ }
+    requires { ⌜ AxisSound m (now axis) ⌝ }
     requires { ⌜ x < m ⌝ }
     ensures { λ r. ⌜ Answers m (cancelled m x (sqs (now (axis .entry)) (now (times .entry)))) (now (axis .exit)) (now (times .exit)) r ⌝ }
 {
-    let c = wide(x);
-    if axis[c] == 0 {
+    if idle(axis, m, x) {
         return Answer::Done;
     }
     if lone(axis, m) {
@@ -106,7 +107,7 @@ pub(crate) fn cancel(axis: &mut [u32], m: usize, times: &mut [u64], x: u32) -> A
 
 // Finish: current is marked terminated, then passivated.
 pub(crate) fn finish(axis: &mut [u32], m: usize, times: &mut [u64], marks: &mut [u8]) -> Answer
-    requires { ⌜ Sound m (now axis) ⌝ }
+    requires { ⌜ AxisSound m (now axis) ⌝ }
     requires { ⌜ Led m (now axis) (now times) ⌝ }
     ensures { λ r. ⌜ AnswersMarked m (passivated m (sqs (now (axis .entry)) (now (times .entry)))) (finishedMarks m (now (marks .entry)) (sqs (now (axis .entry)) (now (times .entry)))) (now (axis .exit)) (now (times .exit)) (now (marks .exit)) r ⌝ }
 {

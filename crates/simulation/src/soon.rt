@@ -11,8 +11,7 @@ use ring::wide;
 ghost use mathlib.Core.Bool.{false};
 ghost use Prim.Native.Nat.{_<_, _≤_};
 ghost use lib.IntN.{pos};
-ghost use Rattle.ring_laws.specs.Table.{Sound};
-ghost use Rattle.model_laws.specs.Now.{half};
+ghost use Rattle.model_laws.specs.Now.{AxisSound, half};
 ghost use Rattle.simulation_laws.specs.Procedures.{activated};
 ghost use Rattle.simulation_laws.specs.Calls.{timedStep};
 ghost use Rattle.simulation_laws.specs.Promise.{sqs, Answers, Judged, Noticed};
@@ -27,7 +26,7 @@ fn direct(
     time: u64,
     x: u32,
 ) -> Answer
-    requires { ⌜ Sound m (now axis) ⌝ }
+    requires { ⌜ AxisSound m (now axis) ⌝ }
     requires { ⌜ x < m ⌝ }
     requires { ⌜ m ≤ 1026 ⌝ }
     requires { ⌜ Noticed m f time (now axis) (now times) ⌝ }
@@ -51,7 +50,7 @@ fn delayed(
     x: u32,
     d: u64,
 ) -> Answer
-    requires { ⌜ Sound m (now axis) ⌝ }
+    requires { ⌜ AxisSound m (now axis) ⌝ }
     requires { ⌜ x < m ⌝ }
     requires { ⌜ m ≤ 1026 ⌝ }
     requires { ⌜ Noticed m f time (now axis) (now times) ⌝ }

@@ -2,8 +2,6 @@
 use crate::activation;
 use crate::activation::above_zero;
 use crate::axis::drop_first;
-use crate::axis::first;
-use crate::axis::lone;
 use crate::procedures;
 use model::Counts;
 use model::Refusal;
@@ -11,6 +9,8 @@ use model::answer::Answer;
 use ring::wide;
 use simset::procedures::precede;
 use simset::steps::head_or_none;
+use simulation_axis::first;
+use simulation_axis::lone;
 ghost use mathlib.Core.Path.{_≡_};
 ghost use Prim.Native.Nat.{_+_, _-_, _<_, _≤_};
 ghost use Rattle.ring_laws.specs.Table.{Sound};

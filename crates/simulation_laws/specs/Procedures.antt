@@ -14,7 +14,7 @@ use Rattle.model.specs.declared.Refusal.the-variants.{NoNotice, TimeLimit}
 use Rattle.model.specs.Counts.{limit}
 use Rattle.model.specs.declared.answer.Answer.{Answer}
 use Rattle.model.specs.declared.answer.Answer.the-variants.{Done, Refused}
-use Rattle.model_laws.specs.Now.{timeOf, firstOf}
+use Rattle.model_laws.specs.Now.{firstOf, nextOf, prevOf, idleOn, loneOn, timeOf}
 
 -- the sequencing set: two lent tables
 pub record Sqs : Type 0 where
@@ -36,17 +36,17 @@ turnedDown r a = record { answer = Refused r; left = a }
 
 -- suc, pred and idle
 abbrev pub nextOn : Sqs → ℕ → ℕ
-nextOn a x = getD (a .axis) x 0
+nextOn a x = nextOf (a .axis) x
 
 abbrev pub prevOn : ℕ → Sqs → ℕ → ℕ
-prevOn m a x = getD (a .axis) (m + x) 0
+prevOn m a x = prevOf m (a .axis) x
 
 abbrev pub idleAt : Sqs → ℕ → Bool
-idleAt a x = eqb (nextOn a x) 0
+idleAt a x = idleOn (a .axis) x
 
 -- there is no second notice
 abbrev pub lone : ℕ → Sqs → Bool
-lone m a = eqb (nextOn a (firstOf m (a .axis))) (m - 1)
+lone m a = loneOn m (a .axis)
 
 -- behind which place a notice stands in front of all from w on: RANK's place, looked for from both ends at once, with at most k steps each;
 -- f goes on from the first, b back from the last
@@ -55,7 +55,7 @@ seekFrom m times w t zero f b = b
 seekFrom m times w t (suc k) f b =
     if eqb b (m - 1) then b
     else (if ltb (getD times b 0) w then b
-    else (if leb w (getD times f 0) then getD t (m + f) 0 else seekFrom m times w t k (getD t f 0) (getD t (m + b) 0)))
+    else (if leb w (getD times f 0) then prevOf m t f else seekFrom m times w t k (nextOf t f) (prevOf m t b)))
 
 unfoldable pub found : ℕ → ℕ → Sqs → ℕ
 found m w a = seekFrom m (a .times) w (a .axis) m (firstOf m (a .axis)) (prevOn m a (m - 1))
@@ -100,7 +100,7 @@ cancelled m x a = if idleAt a x then made a else if lone m a then turnedDown NoN
 -- no effect: X none or terminated; activate of one not idle; X = Y with a notice
 unfoldable pub vain : Bool → ℕ → ℕ → ℕ → List ℕ → List ℕ → Bool
 vain again k x y marks axis =
-    eqb x 0 || not (eqb (getD marks x 0) 0) || (not (eqb (getD axis x 0) 0) && (not again || (leb 5 k && eqb x y)))
+    eqb x 0 || not (eqb (getD marks x 0) 0) || (not (idleOn axis x) && (not again || (leb 5 k && eqb x y)))
 
 -- the new notice's time
 unfoldable pub dueAt : ℕ → ℕ → ℕ → ℕ → List ℕ → ℕ

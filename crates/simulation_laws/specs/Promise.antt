@@ -4,18 +4,17 @@ use mathlib.Core.Path.{_≡_, sym, subst, _∙_}
 use mathlib.Core.Bool.{Bool, _&&_}
 use mathlib.Core.List.{List}
 use native.Mathlib.Omega.{arith}
-use lib.Dec.{leb, eqb}
+use lib.Dec.{leb}
 use lib.ListN.{length, getD, set, List·getD-eq-default}
 use lib.Seq.{set-out}
 use borrow.Author.Tests.{le-leb, lt-leb}
-use Rattle.ring_laws.specs.Table.{Sound}
 use Rattle.ring_laws.specs.Lists.{below, if_then_else_}
 use Rattle.model.specs.declared.Counts.{Counts}
 use Rattle.model.specs.Counts.{limit, Allowed}
 use Rattle.model_laws.specs.Tables.{Tables}
 use Rattle.model_laws.specs.Ready.{Ready}
 use Rattle.model.specs.declared.answer.Answer.{Answer}
-use Rattle.model_laws.specs.Now.{firstOf, half}
+use Rattle.model_laws.specs.Now.{AxisSound, half, firstOf, prevOf, idleOn, loneOn}
 use Rattle.simulation_laws.specs.Procedures.{Sqs, Outcome, vain, dueAt}
 
 abbrev pub sqs : List ℕ → List ℕ → Sqs
@@ -24,12 +23,12 @@ sqs a t = record { axis = a; times = t }
 -- the tables are as wanted, and safe to go on with
 pub record Left (m : ℕ) (want : Sqs) (axis times : List ℕ) : Type 0 where
   pub is : sqs axis times ≡ want
-  pub sound : Sound m axis
+  pub sound : AxisSound m axis
 
 -- and the answer is
 pub record Answers (m : ℕ) (want : Outcome) (axis times : List ℕ) (r : Answer) : Type 0 where
   pub is : record { answer = r; left = sqs axis times } ≡ want
-  pub sound : Sound m axis
+  pub sound : AxisSound m axis
 
 -- a place of the table
 pub record Place (m want r : ℕ) : Type 0 where
@@ -76,14 +75,14 @@ stored-past i v t l = record { is = sym (set-out t i v l) }
 
 -- a test's answer about the first places of the axis
 pub record Lone (m : ℕ) (t : List ℕ) (r : Bool) : Type 0 where
-  pub is : r ≡ eqb (getD t (getD t (m - 1) 0) 0) (m - 1)
+  pub is : r ≡ loneOn m t
 
 pub record Vain (again : Bool) (k x y : ℕ) (marks axis : List ℕ) (r : Bool) : Type 0 where
   pub is : r ≡ vain again k x y marks axis
 
 -- the clause is before or after, and y is idle
 pub record Beside (k y : ℕ) (axis : List ℕ) (r : Bool) : Type 0 where
-  pub is : r ≡ (leb 5 k && eqb (getD axis y 0) 0)
+  pub is : r ≡ (leb 5 k && idleOn axis y)
 
 pub record Due (k y d now : ℕ) (times : List ℕ) (r : ℕ) : Type 0 where
   pub is : r ≡ capped (dueAt k y d now times)
@@ -91,14 +90,14 @@ pub record Due (k y d now : ℕ) (times : List ℕ) (r : ℕ) : Type 0 where
 -- the tables are as wanted, and the answer, and the marks
 pub record AnswersMarked (m : ℕ) (want : Outcome) (wantMarks : List ℕ) (axis times marks : List ℕ) (r : Answer) : Type 0 where
   pub is : record { answer = r; left = sqs axis times } ≡ want
-  pub sound : Sound m axis
+  pub sound : AxisSound m axis
   pub marked : marks ≡ wantMarks
 
 -- x's place is the first: the axis's own head, whose number is small, stands before it; and it has a word in the table of times
 pub record First (m x : ℕ) (axis times : List ℕ) : Type 0 where
   pub within : x < m
   pub small : m ≤ 1026
-  pub led : getD axis (m + x) 0 ≡ m - 1
+  pub led : prevOf m axis x ≡ m - 1
   pub timed : x < length times
   pub full : length times + 1 ≡ m
 
@@ -119,7 +118,7 @@ first-at m x a t l p = subst (λ (y : ℕ). First m y a t) (sym (p .is)) l
 
 pub record Judged (c : Counts) (axis : List ℕ) : Type 0 where
   pub allowed : Allowed c
-  pub sound : Sound (half c) axis
+  pub sound : AxisSound (half c) axis
   pub first-some : 0 < firstOf (half c) axis
   pub first-in : firstOf (half c) axis ≤ c .processes
 

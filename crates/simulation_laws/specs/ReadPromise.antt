@@ -1,6 +1,6 @@
 -- What the queries' code answers, and calls seen on the whole model.
 use Prim.Native.Nat.{ℕ, _+_, _-_, _<_}
-use mathlib.Core.Path.{_≡_, refl, ap, _∙_, subst}
+use mathlib.Core.Path.{_≡_, refl, sym, ap, _∙_, subst}
 use mathlib.Core.Logic.{_≢_}
 use mathlib.Core.Bool.{Bool, true, false, _||_}
 use mathlib.Core.List.{List}
@@ -16,10 +16,10 @@ use Rattle.model.specs.declared.Counts.{Counts}
 use Rattle.model.specs.declared.Refusal.the-variants.{Idle}
 use Rattle.model.specs.Counts.{isProcess, placeOf, linkageAt}
 use Rattle.model.specs.declared.answer.Answer.{Answer}
-use Rattle.model.specs.declared.answer.Answer.the-variants.{Linkage, Number, Refused}
-use Rattle.model_laws.specs.Now.{half}
+use Rattle.model.specs.declared.answer.Answer.the-variants.{Linkage, Number, Truth, Refused}
+use Rattle.model_laws.specs.Now.{half, firstOf, nextOf, idleOn}
 use Rattle.simulation_laws.specs.Procedures.{Sqs, Outcome}
-use Rattle.simulation_laws.specs.Calls.{Marked, Waited, onSqs, onMarks, onSets, currentTold, timeTold, evtimeTold, nextevTold}
+use Rattle.simulation_laws.specs.Calls.{Marked, Waited, onSqs, onMarks, onSets, currentTold, timeTold, idleTold, evtimeTold, nextevTold}
 use Rattle.simulation_laws.specs.Promise.{sqs, Answers, Place, Read}
 use Rattle.simulation_laws.specs.StepPromise.{FinishMade, WaitMade, process-in}
 
@@ -32,37 +32,41 @@ is-in c x e = process-in c x (rw e (or-true (eqb x 0)))
     or-true false = refl
 
 module _ (c : Counts) (axis times : List ℕ) where
-  pub current-told : (f x : ℕ) → Place (half c) (getD axis (half c - 1) 0) f → x ≡ c .heads + f → Linkage x ≡ currentTold c (sqs axis times)
+  pub current-told : (f x : ℕ) → Place (half c) (firstOf (half c) axis) f → x ≡ c .heads + f → Linkage x ≡ currentTold c (sqs axis times)
   unfolding currentTold
   current-told f x p e = ap Linkage (e ∙ ap (linkageAt c) (p .is))
 
-  pub time-told : (f w v : ℕ) → Place (half c) (getD axis (half c - 1) 0) f → w ≡ f → Read w times v → Number v ≡ timeTold c (sqs axis times)
+  pub time-told : (f w v : ℕ) → Place (half c) (firstOf (half c) axis) f → w ≡ f → Read w times v → Number v ≡ timeTold c (sqs axis times)
   unfolding timeTold
   time-told f w v p e r = ap Number (r .is ∙ ap (λ (j : ℕ). getD times j 0) (e ∙ p .is))
 
-  module _ (x : ℕ) (ok : isProcess c x ≡ true) (q : ℕ) (eq : q ≡ placeOf c x) where
-    pub evtime-idle : getD axis q 0 ≡ 0 → Refused Idle ≡ evtimeTold c x (sqs axis times)
-    unfolding evtimeTold
-    evtime-idle z = rw (ok, ← eq, eq-eqb (getD axis q 0) 0 z)
+  module _ (x : ℕ) (ok : isProcess c x ≡ true) (q : ℕ) (eq : q ≡ placeOf c x) (b : Bool) (is : b ≡ idleOn axis q) where
+    pub idle-told : Truth b ≡ idleTold c x (sqs axis times)
+    unfolding idleTold
+    idle-told = rw (ok, ← eq) (ap Truth is)
 
-    pub evtime-some : (v : ℕ) → getD axis q 0 ≢ 0 → Read q times v → Number v ≡ evtimeTold c x (sqs axis times)
+    pub evtime-idle : b ≡ true → Refused Idle ≡ evtimeTold c x (sqs axis times)
     unfolding evtimeTold
-    evtime-some v n r = rw (ok, ← eq, ne-eqb (getD axis q 0) 0 n) (ap Number (r .is))
+    evtime-idle z = rw (ok, ← eq, sym is ∙ z)
 
-    pub nextev-idle : getD axis q 0 ≡ 0 → Linkage 0 ≡ nextevTold c x (sqs axis times)
+    pub evtime-some : (w v : ℕ) → b ≡ false → w ≡ q → Read w times v → Number v ≡ evtimeTold c x (sqs axis times)
+    unfolding evtimeTold
+    evtime-some w v n e r = rw (ok, ← eq, sym is ∙ n) (ap Number (r .is ∙ ap (λ (j : ℕ). getD times j 0) e))
+
+    pub nextev-idle : b ≡ true → Linkage 0 ≡ nextevTold c x (sqs axis times)
     unfolding nextevTold
-    nextev-idle z = rw (ok, ← eq, eq-eqb (getD axis q 0) 0 z)
+    nextev-idle z = rw (ok, ← eq, sym is ∙ z)
 
-    module _ (n : getD axis q 0 ≢ 0) where
-      pub nextev-last : (w p : ℕ) → w ≡ getD axis q 0 → p ≡ c .processes → w ≡ p + 1 → Linkage 0 ≡ nextevTold c x (sqs axis times)
+    module _ (n : b ≡ false) (m s w : ℕ) (em : m ≡ half c) (ps : Place m (nextOf axis q) s) (ew : w ≡ s) where
+      pub nextev-last : w ≡ m - 1 → Linkage 0 ≡ nextevTold c x (sqs axis times)
       unfolding nextevTold
-      nextev-last w p ew ep e =
-          rw (ok, ← eq, ne-eqb (getD axis q 0) 0 n, eq-eqb (getD axis q 0) (half c - 1) (omega arith))
+      nextev-last e =
+          rw (ok, ← eq, sym is ∙ n, eq-eqb (nextOf axis q) (half c - 1) (omega (arith, ps .is)))
 
-      pub nextev-next : (w p v : ℕ) → w ≡ getD axis q 0 → p ≡ c .processes → w ≢ p + 1 → v ≡ c .heads + getD axis q 0 → Linkage v ≡ nextevTold c x (sqs axis times)
+      pub nextev-next : (v : ℕ) → w ≢ m - 1 → v ≡ c .heads + s → Linkage v ≡ nextevTold c x (sqs axis times)
       unfolding nextevTold
-      nextev-next w p v ew ep d e =
-          rw (ok, ← eq, ne-eqb (getD axis q 0) 0 n, ne-eqb (getD axis q 0) (half c - 1) (λ z. d (omega arith))) (ap Linkage e)
+      nextev-next v d e =
+          rw (ok, ← eq, sym is ∙ n, ne-eqb (nextOf axis q) (half c - 1) (λ z. d (omega (arith, ps .is)))) (ap Linkage (e ∙ ap (λ (j : ℕ). c .heads + j) (ps .is)))
 
 -- ---- calls seen on the whole model
 

@@ -6,7 +6,6 @@ use mathlib.Core.Bool.{Bool, true, false, not, _&&_, _||_}
 use mathlib.Core.List.{List}
 use native.Mathlib.Omega.{arith}
 use lib.Dec.{leb, ltb}
-use lib.ListN.{getD}
 use borrow.Author.Tests.{eq-eqb, ne-eqb, le-leb, lt-leb, leb-true, not-true, not-false}
 use Rattle.ring_laws.specs.Lists.{if_then_else_, test, clash}
 use Rattle.ring_laws.specs.Table.{Sound, Made}
@@ -15,7 +14,7 @@ use Rattle.model.specs.declared.Refusal.the-variants.{Operand, NoNotice}
 use Rattle.model.specs.Counts.{total, isHead, isProcess, placeOf, both}
 use Rattle.model.specs.declared.answer.Answer.{Answer}
 use Rattle.model.specs.declared.answer.Answer.the-variants.{Done, Refused}
-use Rattle.model_laws.specs.Now.{firstOf, half}
+use Rattle.model_laws.specs.Now.{AxisSound, half, firstOf}
 use Rattle.simset_laws.specs.Calls.{orNone}
 use Rattle.simset_laws.specs.Procedures.{preceded}
 use Rattle.simset_laws.specs.Promise.{none-or}
@@ -26,12 +25,12 @@ use Rattle.simulation_laws.specs.Promise.{sqs, Left, Answers, AnswersMar
 
 pub record FinishMade (c : Counts) (want : Marked) (axis times marks : List ℕ) (r : Answer) : Type 0 where
   pub is : record { outcome = record { answer = r; left = sqs axis times }; marks = marks } ≡ want
-  pub sound : Sound (half c) axis
+  pub sound : AxisSound (half c) axis
 
 pub record WaitMade (c : Counts) (want : Waited) (links axis times : List ℕ) (r : Answer) : Type 0 where
   pub is : record { links = links; outcome = record { answer = r; left = sqs axis times } } ≡ want
   pub links-sound : Sound (total c + 1) links
-  pub sound : Sound (half c) axis
+  pub sound : AxisSound (half c) axis
 
 -- ---- operands that passed are places of the axis
 
@@ -82,7 +81,7 @@ module _ (c : Counts) (k x y : ℕ) where
 -- ---- refused by an operand, or on to the procedure
 
 module _ (m : ℕ) (b : Bool) (o : Outcome) (axis times : List ℕ) where
-  pub refused-3 : Sound m axis → b ≡ false → Answers m (if b then o else turnedDown Operand (sqs axis times)) axis times (Refused Operand)
+  pub refused-3 : AxisSound m axis → b ≡ false → Answers m (if b then o else turnedDown Operand (sqs axis times)) axis times (Refused Operand)
   refused-3 s e = record { is = rw e; sound = s }
 
   pub passed-3 : (d : Outcome) (r : Answer) → b ≡ true → Answers m o axis times r → Answers m (if b then o else d) axis times r
@@ -90,10 +89,10 @@ module _ (m : ℕ) (b : Bool) (o : Outcome) (axis times : List ℕ) where
 
 -- ---- finish
 
-module _ (c : Counts) (axis times marks : List ℕ) (f : ℕ) (p : Place (half c) (getD axis (half c - 1) 0) f) where
-  pub finish-main : Sound (half c) axis → f ≡ 1 → FinishMade c (finishStep c marks (sqs axis times)) axis times marks (Refused Operand)
+module _ (c : Counts) (axis times marks : List ℕ) (f : ℕ) (p : Place (half c) (firstOf (half c) axis) f) where
+  pub finish-main : AxisSound (half c) axis → f ≡ 1 → FinishMade c (finishStep c marks (sqs axis times)) axis times marks (Refused Operand)
   unfolding finishStep
-  finish-main s e = record { is = rw (eq-eqb (getD axis (half c - 1) 0) 1 (sym (p .is) ∙ e)); sound = s }
+  finish-main s e = record { is = rw (eq-eqb (firstOf (half c) axis) 1 (sym (p .is) ∙ e)); sound = s }
 
   pub finish-other : (a t k : List ℕ) (r : Answer) → f ≢ 1
       → AnswersMarked (half c) (passivated (half c) (sqs axis times)) (finishedMarks (half c) marks (sqs axis times)) a t k r
@@ -114,18 +113,18 @@ first-low c axis j f p = omega (arith, j .first-in, p .is)
 -- ---- wait
 
 module _ (c : Counts) (y : ℕ) (links axis times : List ℕ) where
-  pub wait-3 : Sound (total c + 1) links → Sound (half c) axis → orNone (isHead c y) y ≡ false
+  pub wait-3 : Sound (total c + 1) links → AxisSound (half c) axis → orNone (isHead c y) y ≡ false
       → WaitMade c (waitStep c y links (sqs axis times)) links axis times (Refused Operand)
   unfolding waitStep
   wait-3 sl s e = record { is = rw e; links-sound = sl; sound = s }
 
   module _ (e : orNone (isHead c y) y ≡ true) (b : Bool) (l : Lone (half c) axis b) where
-    pub wait-4 : Sound (total c + 1) links → Sound (half c) axis → b ≡ true
+    pub wait-4 : Sound (total c + 1) links → AxisSound (half c) axis → b ≡ true
         → WaitMade c (waitStep c y links (sqs axis times)) links axis times (Refused NoNotice)
     unfolding waitStep
     wait-4 sl s q = record { is = rw (e, sym (l .is) ∙ q); links-sound = sl; sound = s }
 
-    pub wait-0 : (f x : ℕ) (k a t : List ℕ) → b ≡ false → Place (half c) (getD axis (half c - 1) 0) f → x ≡ c .heads + f
+    pub wait-0 : (f x : ℕ) (k a t : List ℕ) → b ≡ false → Place (half c) (firstOf (half c) axis) f → x ≡ c .heads + f
         → Made (total c + 1) (preceded (total c + 1) x y links) k → Left (half c) (dropOn (half c) f (sqs axis times)) a t
         → WaitMade c (waitStep c y links (sqs axis times)) k a t Done
     unfolding waitStep

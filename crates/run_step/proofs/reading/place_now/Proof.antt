@@ -1,7 +1,6 @@
-use Prim.Native.Nat.{ℕ}
-use mathlib.Core.Path.{ap}
-use native.Mathlib.Omega.{arith}
-use lib.ListN.{getD}
+use Prim.Native.Nat.{ℕ, _+_}
+use mathlib.Core.Path.{ap, _∙_}
+use Rattle.model_laws.specs.Now.{firstOf}
 use borrow.Author.Needs.{needs}
 use Rattle.run_step.proofs.reading.place_now.Statement.{statement}
 use Rattle.run_step.proofs.reading.place_now.Tie as tie
@@ -9,18 +8,14 @@ use Rattle.run_step.proofs.reading.place_now.Tie as tie
 wide-requires : tie.Need-wide-requires
 wide-requires c κs = search needs
 
-add-result : tie.Need-add-result
-add-result c = search needs
+add-first : tie.Need-add-first
+add-first c = search needs
 
-mul-result : tie.Need-mul-result
-mul-result c = search needs
-
-shared-slice-read-result : tie.Need-shared-slice-read-result
-shared-slice-read-result c = search needs
+first-requires : tie.Need-first-requires
+first-requires c κs = rw (c .wide .ensures) (c .before .before .pre .sound)
 
 returns : tie.Need-returns
-returns c = ap (λ (i : ℕ). getD (c .before .before .before .args .axis .now) i 0) (omega (arith, c .before .wide .ensures))
+returns c = c .first .ensures .is ∙ ap (λ (p : ℕ). firstOf (p + 2) (c .before .before .before .args .axis .now)) (c .before .wide .ensures)
 
 pub place-now-spec : {M : Type 1} → statement M
-place-now-spec =
-    tie.close (tie.spec wide-requires add-result mul-result shared-slice-read-result returns)
+place-now-spec = tie.close (tie.spec wide-requires add-first first-requires returns)

@@ -1,5 +1,5 @@
-use mathlib.Core.Path.{ap}
 use Prim.Native.Nat.{ℕ}
+use mathlib.Core.Path.{ap, _∙_}
 use lib.ListN.{getD}
 use borrow.Author.Needs.{needs}
 use Rattle.run_step.proofs.reading.time_of.Statement.{statement}
@@ -8,14 +8,11 @@ use Rattle.run_step.proofs.reading.time_of.Tie as tie
 wide-requires : tie.Need-wide-requires
 wide-requires c κs = search needs
 
-mul-result : tie.Need-mul-result
-mul-result c = search needs
-
-shared-slice-read-result : tie.Need-shared-slice-read-result
-shared-slice-read-result c = search needs
+time-at-requires : tie.Need-time-at-requires
+time-at-requires c κs = search needs
 
 returns : tie.Need-returns
-returns c = ap (λ (j : ℕ). getD (c .before .before .before .args .times .now) j 0) (c .before .wide .ensures)
+returns c = c .time-at .ensures .is ∙ ap (λ (j : ℕ). getD (c .before .before .before .args .times .now) j 0) (c .before .wide .ensures)
 
 pub time-of-spec : {M : Type 1} → statement M
-time-of-spec = tie.close (tie.spec wide-requires mul-result shared-slice-read-result returns)
+time-of-spec = tie.close (tie.spec wide-requires time-at-requires returns)

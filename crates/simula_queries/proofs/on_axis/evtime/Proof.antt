@@ -1,11 +1,29 @@
 use Rattle.simulation_laws.specs.ReadPromise.{is-in, evtime-idle, evtime-some}
 use Rattle.simset_laws.specs.Promise.{told-not, failed, passed}
-use mathlib.Core.Path.{_∙_}
 use Rattle.simulation_laws.specs.Calls.{evtimeTold}
 use borrow.Author.Needs.{needs}
 use native.Mathlib.Omega.{arith}
 use Rattle.simula_queries.proofs.on_axis.evtime.Statement.{statement}
 use Rattle.simula_queries.proofs.on_axis.evtime.Tie as tie
+
+-- The places that the answers look back to: `search` finds each by its type.
+abbrev start : tie.Start → tie.Start
+start x = x
+
+abbrev after-is-process : tie.After-is-process → tie.After-is-process
+after-is-process x = x
+
+abbrev else1 : tie.Else1 → tie.Else1
+else1 x = x
+
+abbrev after-wide : tie.After-wide → tie.After-wide
+after-wide x = x
+
+abbrev after-place-of : tie.After-place-of → tie.After-place-of
+after-place-of x = x
+
+abbrev after-idle : tie.After-idle → tie.After-idle
+after-idle x = x
 
 is-process-requires : tie.Need-is-process-requires
 is-process-requires c κs = search needs
@@ -14,26 +32,29 @@ returns : tie.Need-returns
 unfolding evtimeTold
 returns c = told-not _ _ (failed _ _ (c .before .is-process .ensures) (c .if1 .taken))
 
-place-of-requires : tie.Need-place-of-requires
-place-of-requires c κs = search needs
-
 wide-requires : tie.Need-wide-requires
 wide-requires c κs = search needs
 
-mul-if2 : tie.Need-mul-if2
-mul-if2 c = search needs
+add-m : tie.Need-add-m
+add-m c = search needs
 
-shared-slice-read-if2 : tie.Need-shared-slice-read-if2
-shared-slice-read-if2 c = omega (arith, c .before .wide .ensures, c .before .before .place-of .ensures, c .before .before .before .before .before .before .before .pre .sound .two, is-in (c .before .before .before .before .before .before .before .args .c) (c .before .before .before .before .before .before .before .args .x) (passed _ _ (c .before .before .before .before .is-process .ensures) (c .before .before .before .if1 .left)))
+place-of-requires : tie.Need-place-of-requires
+place-of-requires c κs = search needs
+
+idle-requires : tie.Need-idle-requires
+idle-requires c κs = (rw (after-wide (search) .wide .ensures) (start (search) .pre .sound), omega (arith, after-wide (search) .wide .ensures, after-place-of (search) .place-of .ensures, is-in (start (search) .args .c) (start (search) .args .x) (passed _ _ (after-is-process (search) .is-process .ensures) (else1 (search) .if1 .left))))
 
 returns-2 : tie.Need-returns-2
-returns-2 c = evtime-idle (c .before .before .before .before .before .before .before .before .args .c) _ _ (c .before .before .before .before .before .before .before .before .args .x) (passed _ _ (c .before .before .before .before .before .is-process .ensures) (c .before .before .before .before .if1 .left)) _ (c .before .before .wide .ensures ∙ c .before .before .before .place-of .ensures) (c .if2 .taken)
+returns-2 c = evtime-idle (start (search) .args .c) _ _ (start (search) .args .x) (passed _ _ (after-is-process (search) .is-process .ensures) (else1 (search) .if1 .left)) _ (after-place-of (search) .place-of .ensures) _ (after-idle (search) .idle .ensures) (c .if2 .taken)
+
+wide-requires-2 : tie.Need-wide-requires-2
+wide-requires-2 c κs = search needs
 
 due-requires : tie.Need-due-requires
 due-requires c κs = search needs
 
 returns-3 : tie.Need-returns-3
-returns-3 c = evtime-some (c .before .before .before .before .before .before .before .before .before .args .c) _ _ (c .before .before .before .before .before .before .before .before .before .args .x) (passed _ _ (c .before .before .before .before .before .before .is-process .ensures) (c .before .before .before .before .before .if1 .left)) _ (c .before .before .before .wide .ensures ∙ c .before .before .before .before .place-of .ensures) _ (c .before .if2 .left) (c .due .ensures)
+returns-3 c = evtime-some (start (search) .args .c) _ _ (start (search) .args .x) (passed _ _ (after-is-process (search) .is-process .ensures) (else1 (search) .if1 .left)) _ (after-place-of (search) .place-of .ensures) _ (after-idle (search) .idle .ensures) _ _ (c .before .before .if2 .left) (c .before .wide2 .ensures) (c .due .ensures)
 
 pub evtime-spec : {M : Type 1} → statement M
 evtime-spec =
@@ -41,10 +62,11 @@ evtime-spec =
     (tie.spec
     is-process-requires
     returns
-    place-of-requires
     wide-requires
-    mul-if2
-    shared-slice-read-if2
+    add-m
+    place-of-requires
+    idle-requires
     returns-2
+    wide-requires-2
     due-requires
     returns-3)

@@ -4,20 +4,11 @@ use Rattle.simulation.proofs.Chained.{place-5, place-6, place-at, place
 use Rattle.simulation.proofs.activation.place_for.Statement.{statement}
 use Rattle.simulation.proofs.activation.place_for.Tie as tie
 
-wide-requires : tie.Need-wide-requires
-wide-requires c κs = search needs
-
-add-result : tie.Need-add-result
-add-result c = search needs
-
-mul-result : tie.Need-mul-result
-mul-result c = search needs
-
-shared-slice-read-result : tie.Need-shared-slice-read-result
-shared-slice-read-result c = search needs
+prev-requires : tie.Need-prev-requires
+prev-requires c κs = search needs
 
 returns : tie.Need-returns
-returns c = place-5 _ _ _ _ _ _ _ _ (c .before .before .before .before .before .pre .0) (c .before .before .if1 .taken) (c .before .wide .ensures)
+returns c = place-5 _ _ _ _ _ _ _ _ (c .before .if1 .taken) (c .prev .ensures)
 
 returns-2 : tie.Need-returns-2
 returns-2 c = place-6 _ _ _ _ _ _ _ (c .before .before .before .before .pre .1 .0) (c .if2 .taken)
@@ -59,10 +50,7 @@ pub place-for-spec : {M : Type 1} → statement M
 place-for-spec =
     tie.close
     (tie.spec
-    wide-requires
-    add-result
-    mul-result
-    shared-slice-read-result
+    prev-requires
     returns
     returns-2
     add-seek

@@ -1,9 +1,9 @@
 use borrow.Author.Needs.{needs}
 use native.Mathlib.Omega.{arith}
 use Prim.Native.Nat.{_-_}
-use Rattle.simulation.proofs.Arms.{lone-test}
-use Rattle.simulation.proofs.axis.lone.Statement.{statement}
-use Rattle.simulation.proofs.axis.lone.Tie as tie
+use Rattle.simulation_axis.proofs.Reading.{lone-test}
+use Rattle.simulation_axis.proofs.lone.Statement.{statement}
+use Rattle.simulation_axis.proofs.lone.Tie as tie
 
 sub-wide : tie.Need-sub-wide
 sub-wide c = omega (arith, c .before .pre .inside 0)

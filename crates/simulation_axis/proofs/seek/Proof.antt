@@ -1,9 +1,9 @@
 use borrow.Author.Needs.{needs}
 use native.Mathlib.Omega.{arith}
 use Prim.Native.Nat.{_-_}
-use Rattle.simulation.proofs.Seeks.{Seeks, seeks-start, seeks-turn, seeks-head, seeks-back, seeks-front, seeks-out}
-use Rattle.simulation.proofs.axis.seek.Statement.{statement}
-use Rattle.simulation.proofs.axis.seek.Tie as tie
+use Rattle.simulation_axis.proofs.Seeks.{Seeks, seeks-start, seeks-turn, seeks-head, seeks-back, seeks-front, seeks-out}
+use Rattle.simulation_axis.proofs.seek.Statement.{statement}
+use Rattle.simulation_axis.proofs.seek.Tie as tie
 
 abbrev Inv-loop : tie.InvT-loop
 Inv-loop axis m times w head f₀ b₀ n₀ f b n = Seeks axis m times w f b n

@@ -1,8 +1,8 @@
 use borrow.Author.Needs.{needs}
 use native.Mathlib.Omega.{arith}
 use mathlib.Core.Path.{refl}
-use Rattle.simulation.proofs.axis.first.Statement.{statement}
-use Rattle.simulation.proofs.axis.first.Tie as tie
+use Rattle.simulation_axis.proofs.first.Statement.{statement}
+use Rattle.simulation_axis.proofs.first.Tie as tie
 
 sub-result : tie.Need-sub-result
 sub-result c = omega (arith, c .pre .inside 0)

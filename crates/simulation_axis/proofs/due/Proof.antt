@@ -1,7 +1,7 @@
 use borrow.Author.Needs.{needs}
 use Rattle.simulation_laws.specs.Promise.{read-past}
-use Rattle.simulation.proofs.axis.due.Statement.{statement}
-use Rattle.simulation.proofs.axis.due.Tie as tie
+use Rattle.simulation_axis.proofs.due.Statement.{statement}
+use Rattle.simulation_axis.proofs.due.Tie as tie
 
 returns : tie.Need-returns
 returns c = read-past _ _ (c .if1 .taken)
