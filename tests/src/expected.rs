@@ -16,7 +16,7 @@ pub fn known(call: u32) -> bool {
         number::JUDGE..=number::ACCUM
             | number::FIRST..=number::FINISH
             | number::ACCUM_IN_PLACE..=number::FRESH_MODEL
-            | number::RUN..=number::FRESH
+            | number::RUN..=number::TURN
     )
 }
 
@@ -30,7 +30,7 @@ pub fn expected(request: &Request) -> Response {
         };
         return Response { code, lines: 0, answer, lent };
     }
-    if request.call.number == number::RUN {
+    if matches!(request.call.number, number::RUN | number::TURN) {
         let (code, lines) = match run(request, &mut lent) {
             Ok(end) => end,
             Err(refusal) => (refusal, 0),

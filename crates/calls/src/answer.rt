@@ -6,6 +6,7 @@ use crate::fresh_call;
 use crate::judge_call;
 use crate::run_calls;
 use crate::sheet_call;
+use crate::turn_call;
 use calls_served::head::Head;
 use calls_served::reply::Reply;
 use calls_served::reply::answered;
@@ -36,6 +37,9 @@ fn on_model(call: u32) -> bool {
 // Is there such a call?
 pub(crate) fn known(call: u32) -> bool {
     if run_calls::has(call) {
+        return true;
+    }
+    if turn_call::has(call) {
         return true;
     }
     if sheet_call::has(call) {
@@ -101,6 +105,9 @@ pub(crate) fn answer(
             sheet,
             trace,
         );
+    }
+    if turn_call::has(call) {
+        return turn_call::answer(links, axis, times, marks, accums, positions, sheet, trace);
     }
     if sheet_call::has(call) {
         return sheet_call::answer(sheet);

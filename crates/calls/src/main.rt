@@ -9,6 +9,7 @@ mod respond;
 mod run_calls;
 mod serve;
 mod sheet_call;
+mod turn_call;
 
 use serve::serve;
 

@@ -105,3 +105,17 @@ counting =
 pub counting-run : getD (lastOf (fresh counting) (calls counting (fresh counting) (100 ∷ [])) .triples) 1 zero-accumulator ≡ record { a = pos 15; b = pos 5; c = pos 3 }
 unfolding brings
 counting-run = refl
+
+-- ---- a tie: main's hold ends when process 2 is due, and main stands behind it
+
+abbrev tied : Sheet
+tied =
+    record {
+      counts = record { heads = 0; processes = 2; plains = 0 };
+      starts = 1 ∷ 0 ∷ [];
+      records = record { next = 2; operation = 10; clause = 2; x = 2; y = 0; t = pos 5 } ∷ does 0 6 0 0 (pos 5) ∷ [];
+    }
+
+pub tied-run : brings tied (64 ∷ []) (want (line 0 1 1 ∷ line 0 1 2 ∷ line 5 2 0 ∷ []) 0 ∷ []) ≡ true
+unfolding brings
+tied-run = refl

@@ -1,7 +1,6 @@
 -- A turn comes to an end, or to a step: to show something of a turn is to show it of both.
 use Rattle.ring_laws.specs.Lists.{test}
 use Rattle.model_laws.specs.Result.{done, refused, Result}
-use Rattle.model_laws.specs.Now.{current}
 use Rattle.sheet.specs.Sheet.{Sheet}
 use Rattle.machine.specs.declared.End.{End}
 use Rattle.machine.specs.declared.End.the-variants.{Finished, Refused}

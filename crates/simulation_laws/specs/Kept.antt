@@ -11,9 +11,8 @@ use Rattle.model.specs.declared.Refusal.{Refusal}
 use Rattle.model.specs.declared.Refusal.the-variants.{Operand, NoNotice, TimeLimit}
 use Rattle.model.specs.Counts.{limit, isHead, isProcess, placeOf}
 use Rattle.model.specs.declared.answer.Answer.the-variants.{Refused}
-use Rattle.model_laws.specs.Called.{called}
 use Rattle.model_laws.specs.Now.{half, firstOf, timeOf}
-use Rattle.model_laws.specs.Result.{KeepsRefused, called-kept}
+use Rattle.model_laws.specs.Result.{KeepsRefused}
 use Rattle.simset_laws.specs.Calls.{orNone}
 use Rattle.simulation_laws.specs.Plain.{above, timedNeed}
 use Rattle.simulation_laws.specs.Procedures.{Sqs, Outcome, made, turnedDown, idleAt, lone, dropOn, heldTo, held, passivated, cancelled, vain, dueAt, putByClause, activated, finishedMarks}

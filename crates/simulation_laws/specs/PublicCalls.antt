@@ -1,5 +1,4 @@
 -- The public sequencing calls and queries as values: what each case does to the tables, what it is on lists, and as published.
-use Prim.Native.Nat.{ℕ}
 use mathlib.Core.Bool.{true, false, not}
 use lib.Dec.{eqb}
 use lib.ListN.{length}

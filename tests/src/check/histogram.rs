@@ -24,7 +24,7 @@ fn codes(call: u32) -> &'static [u32] {
         op::ACCUM_ALONE | op::ACCUM_BY_VALUE => &[0, 1, 2, 7],
         op::FRESH_MODEL => &[0, 1],
         op::EVTIME => &[0, 1, 2, 3, 6],
-        op::RUN => &[0, 1, 2, 3, 4, 5, 7, 8, 200],
+        op::RUN | op::TURN => &[0, 1, 2, 3, 4, 5, 7, 8, 200],
         op::CHECK => &[0, 8],
         op::FRESH => &[0, 1, 8],
         _ => &[0, 1, 2, 3],

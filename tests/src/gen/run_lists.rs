@@ -3,7 +3,8 @@
 use super::{runs, sheets, special};
 use crate::protocol::{Lent, Request};
 use crate::rng::Rng;
-use crate::sim::run::Run;
+use crate::sim::call::number;
+use crate::sim::run::{Run, LINE};
 use crate::sim::sheet::Sheet;
 
 /// A sheet and its run, so far.
@@ -35,7 +36,12 @@ impl RunList {
         self.left -= 1;
         let length = runs::buffer(rng);
         let lent = Lent { trace: rng.bytes(length), ..self.lent.clone() };
-        runs::request(rng, self.sheet.encode(), self.sheet.counts, lent)
+        let mut request = runs::request(rng, self.sheet.encode(), self.sheet.counts, lent);
+        // every other one with room for just one line is made by a turn
+        if length / LINE == 1 && self.left % 2 == 0 {
+            request.call.number = number::TURN;
+        }
+        request
     }
 
     /// The next call goes on from this.

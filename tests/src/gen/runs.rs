@@ -54,6 +54,17 @@ fn under_way(rng: &mut Rng, sheet: &Sheet) -> Run {
     run
 }
 
+/// The same, asked for by a turn; most have room for just one line.
+pub fn turn(rng: &mut Rng) -> Case {
+    let mut case = case(rng);
+    case.request.call.number = number::TURN;
+    if rng.chance(80) {
+        let length = rng.between(16, 31) as usize;
+        case.request.lent.trace = rng.bytes(length);
+    }
+    case
+}
+
 /// One run call by itself.
 pub fn case(rng: &mut Rng) -> Case {
     let sheet = sheets::any(rng);

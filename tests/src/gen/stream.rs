@@ -22,7 +22,7 @@ fn weight(call: u32) -> u64 {
 
 /// Every call number that the stream can make.
 pub fn all_calls() -> Vec<u32> {
-    (0..=number::FRESH).filter(|&call| known(call)).collect()
+    (0..=number::TURN).filter(|&call| known(call)).collect()
 }
 
 pub struct Stream {
@@ -45,6 +45,7 @@ impl Stream {
         let number = self.rng.weighted(&self.calls);
         match number {
             number::RUN => return runs::case(&mut self.rng),
+            number::TURN => return runs::turn(&mut self.rng),
             number::FRESH => return runs::fresh(&mut self.rng),
             number::CHECK => return runs::check(&mut self.rng),
             _ => {}

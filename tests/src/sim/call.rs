@@ -40,6 +40,8 @@ pub mod number {
     pub const RUN: u32 = 40;
     pub const CHECK: u32 = 41;
     pub const FRESH: u32 = 42;
+    /// As `RUN`, but with room for just one line it is made by one turn.
+    pub const TURN: u32 = 43;
 }
 
 /// A call with its operands; those that the call does not use are not looked at.

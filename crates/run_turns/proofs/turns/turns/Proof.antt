@@ -18,7 +18,7 @@ use Rattle.run_turns.proofs.turns.turns.Tie as tie
 
 abbrev Inv-loop : tie.InvT-loop
 Inv-loop c sheet links₀ axis₀ times₀ marks₀ positions₀ accums₀ trace₀ room n₀ links axis times marks positions accums trace n =
-    Turning c sheet room n (turnsOn c sheet 0 (length trace₀ / 16) (lent links₀ axis₀ times₀ marks₀ positions₀ accums₀) trace₀) (lent links₀ axis₀ times₀ marks₀ positions₀ accums₀) trace₀ (lent links axis times marks positions accums) trace
+    Turning c sheet room n (turnsOn c sheet 0 (length trace₀ / lineSize) (lent links₀ axis₀ times₀ marks₀ positions₀ accums₀) trace₀) (lent links₀ axis₀ times₀ marks₀ positions₀ accums₀) trace₀ (lent links axis times marks positions accums) trace
 
 abbrev μ-loop : tie.MeasureT-loop
 μ-loop c sheet links₀ axis₀ times₀ marks₀ positions₀ accums₀ trace₀ room n₀ links axis times marks positions accums trace n =
