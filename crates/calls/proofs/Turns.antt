@@ -11,7 +11,6 @@ use Rattle.sheet.specs.declared.header.Header.{Header}
 use Rattle.sheet.specs.declared.header.Checked.{Checked}
 use Rattle.sheet.specs.declared.header.Checked.the-variants.{Accepted}
 use Rattle.sheet.specs.Accepted.{checked}
-use Rattle.machine.specs.declared.End.{End}
 use Rattle.machine.specs.declared.End.the-variants.{Full, Refused}
 use Rattle.run_laws.specs.Run.{RunTables, RanOn, runJudged, judgedRun, checkedRun, runOn}
 use Rattle.run_laws.specs.Standing.{Standing}

@@ -1,6 +1,7 @@
 use Rattle.run_laws.specs.Judging.{fine-standing}
 use Rattle.run_laws.specs.RunIs.{run-judged, run-turns}
 use mathlib.Core.Path.{sym, _∙_}
+use Rattle.run_laws.specs.Run.{lent}
 use borrow.Author.Needs.{needs}
 use Rattle.run.proofs.run_accepted.Statement.{statement}
 use Rattle.run.proofs.run_accepted.Tie as tie
@@ -34,7 +35,7 @@ abbrev start-from-judge-run : tie.After-judge-run → tie.Start
 start-from-judge-run x = x .before .before .before .before .before .before .before .before .before .before .before .before .before .before .before
 
 turns-requires : tie.Need-turns-requires
-turns-requires c κs = fine-standing ((start (search) .args .sheet .now)) ((start (search) .args .header)) (record { model = record { links = (start (search) .args .links .now); axis = (start (search) .args .axis .now); times = (start (search) .args .times .now); marks = (start (search) .args .marks .now) }; positions = (start (search) .args .positions .now); words = (start (search) .args .accums .now) }) _ ((start (search) .pre)) (sym ((after-judge-run (search) .judge-run .ensures)) ∙ (after-enum-told (search) .enum-told .given .1))
+turns-requires c κs = fine-standing ((start (search) .args .sheet .now)) ((start (search) .args .header)) (lent (start (search) .args .links .now) (start (search) .args .axis .now) (start (search) .args .times .now) (start (search) .args .marks .now) (start (search) .args .positions .now) (start (search) .args .accums .now)) _ ((start (search) .pre)) (sym ((after-judge-run (search) .judge-run .ensures)) ∙ (after-enum-told (search) .enum-told .given .1))
 
 same-length : tie.Need-same-length
 same-length c = search needs
@@ -55,7 +56,7 @@ same-length-6 : tie.Need-same-length-6
 same-length-6 c = search needs
 
 returns : tie.Need-returns
-returns c = run-judged ((start (search) .args .sheet .now)) (record { model = record { links = (start (search) .args .links .now); axis = (start (search) .args .axis .now); times = (start (search) .args .times .now); marks = (start (search) .args .marks .now) }; positions = (start (search) .args .positions .now); words = (start (search) .args .accums .now) }) ((start (search) .args .trace .now)) ((start (search) .args .header)) _ ((after-judge-run (search) .judge-run .ensures)) _ _ ((c .before .before .v .given .1)) ((c .refused .ensures))
+returns c = run-judged ((start (search) .args .sheet .now)) (lent (start (search) .args .links .now) (start (search) .args .axis .now) (start (search) .args .times .now) (start (search) .args .marks .now) (start (search) .args .positions .now) (start (search) .args .accums .now)) ((start (search) .args .trace .now)) ((start (search) .args .header)) _ ((after-judge-run (search) .judge-run .ensures)) _ _ ((c .before .before .v .given .1)) ((c .refused .ensures))
 
 same-length-7 : tie.Need-same-length-7
 same-length-7 c = search needs
@@ -79,7 +80,7 @@ same-length-13 : tie.Need-same-length-13
 same-length-13 c = search needs
 
 returns-2 : tie.Need-returns-2
-returns-2 c = run-turns ((start-from-judge-run (search) .args .sheet .now)) (record { model = record { links = (start-from-judge-run (search) .args .links .now); axis = (start-from-judge-run (search) .args .axis .now); times = (start-from-judge-run (search) .args .times .now); marks = (start-from-judge-run (search) .args .marks .now) }; positions = (start-from-judge-run (search) .args .positions .now); words = (start-from-judge-run (search) .args .accums .now) }) ((start-from-judge-run (search) .args .trace .now)) ((start-from-judge-run (search) .args .header)) _ ((after-judge-run (search) .judge-run .ensures)) _ ((after-enum-told (search) .enum-told .given .1)) ((after-turns (search) .turns .ensures))
+returns-2 c = run-turns ((start-from-judge-run (search) .args .sheet .now)) (lent (start-from-judge-run (search) .args .links .now) (start-from-judge-run (search) .args .axis .now) (start-from-judge-run (search) .args .times .now) (start-from-judge-run (search) .args .marks .now) (start-from-judge-run (search) .args .positions .now) (start-from-judge-run (search) .args .accums .now)) ((start-from-judge-run (search) .args .trace .now)) ((start-from-judge-run (search) .args .header)) _ ((after-judge-run (search) .judge-run .ensures)) _ ((after-enum-told (search) .enum-told .given .1)) ((after-turns (search) .turns .ensures))
 
 pub run-accepted-spec : {M : Type 1} → statement M
 run-accepted-spec =

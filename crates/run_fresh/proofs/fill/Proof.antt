@@ -1,5 +1,6 @@
 use Rattle.run_laws.specs.Filling.{at}
 use Rattle.run_laws.specs.Filling.{fill-positions, fill-words, starts-inside, fill-model, fill-all}
+use Rattle.run_laws.specs.Run.{lent}
 use borrow.Author.Needs.{needs}
 use Rattle.run_fresh.proofs.fill.Statement.{statement}
 use Rattle.run_fresh.proofs.fill.Tie as tie
@@ -36,10 +37,10 @@ abbrev start-from-wide : tie.After-wide → tie.Start
 start-from-wide x = x .before .before .before .before .before .before .before .before
 
 returns : tie.Need-returns
-returns c = fill-positions ((start (search) .args .sheet .now)) (record { model = record { links = (start (search) .args .links .now); axis = (start (search) .args .axis .now); times = (start (search) .args .times .now); marks = (start (search) .args .marks .now) }; positions = (start (search) .args .positions .now); words = (start (search) .args .accums .now) }) ((start (search) .args .header)) _ ((c .before .wide .ensures)) ((c .if1 .taken))
+returns c = fill-positions ((start (search) .args .sheet .now)) (lent (start (search) .args .links .now) (start (search) .args .axis .now) (start (search) .args .times .now) (start (search) .args .marks .now) (start (search) .args .positions .now) (start (search) .args .accums .now)) ((start (search) .args .header)) _ ((c .before .wide .ensures)) ((c .if1 .taken))
 
 returns-2 : tie.Need-returns-2
-returns-2 c = fill-words ((start (search) .args .sheet .now)) (record { model = record { links = (start (search) .args .links .now); axis = (start (search) .args .axis .now); times = (start (search) .args .times .now); marks = (start (search) .args .marks .now) }; positions = (start (search) .args .positions .now); words = (start (search) .args .accums .now) }) ((start (search) .args .header)) _ ((c .before .before .wide .ensures)) ((c .before .if1 .left)) ((c .if2 .taken))
+returns-2 c = fill-words ((start (search) .args .sheet .now)) (lent (start (search) .args .links .now) (start (search) .args .axis .now) (start (search) .args .times .now) (start (search) .args .marks .now) (start (search) .args .positions .now) (start (search) .args .accums .now)) ((start (search) .args .header)) _ ((c .before .before .wide .ensures)) ((c .before .if1 .left)) ((c .if2 .taken))
 
 fresh-requires : tie.Need-fresh-requires
 fresh-requires c κs = search needs
@@ -51,7 +52,7 @@ enum-told : tie.Need-enum-told
 enum-told c = search needs
 
 fill-starts-requires : tie.Need-fill-starts-requires
-fill-starts-requires c κs = (at ((start-from-wide (search) .args .sheet .now)) (record { model = record { links = (start-from-wide (search) .args .links .now); axis = (start-from-wide (search) .args .axis .now); times = (start-from-wide (search) .args .times .now); marks = (start-from-wide (search) .args .marks .now) }; positions = (start-from-wide (search) .args .positions .now); words = (start-from-wide (search) .args .accums .now) }) ((start-from-wide (search) .args .header)) _ ((after-wide (search) .wide .ensures)) ((else1 (search) .if1 .left)), starts-inside ((start-from-wide (search) .args .sheet .now)) (record { model = record { links = (start-from-wide (search) .args .links .now); axis = (start-from-wide (search) .args .axis .now); times = (start-from-wide (search) .args .times .now); marks = (start-from-wide (search) .args .marks .now) }; positions = (start-from-wide (search) .args .positions .now); words = (start-from-wide (search) .args .accums .now) }) ((start-from-wide (search) .args .header)) _ ((after-wide (search) .wide .ensures)) ((else1 (search) .if1 .left)) ((else2 (search) .if2 .left)) ((start-from-wide (search) .pre)))
+fill-starts-requires c κs = (at ((start-from-wide (search) .args .sheet .now)) (lent (start-from-wide (search) .args .links .now) (start-from-wide (search) .args .axis .now) (start-from-wide (search) .args .times .now) (start-from-wide (search) .args .marks .now) (start-from-wide (search) .args .positions .now) (start-from-wide (search) .args .accums .now)) ((start-from-wide (search) .args .header)) _ ((after-wide (search) .wide .ensures)) ((else1 (search) .if1 .left)), starts-inside ((start-from-wide (search) .args .sheet .now)) (lent (start-from-wide (search) .args .links .now) (start-from-wide (search) .args .axis .now) (start-from-wide (search) .args .times .now) (start-from-wide (search) .args .marks .now) (start-from-wide (search) .args .positions .now) (start-from-wide (search) .args .accums .now)) ((start-from-wide (search) .args .header)) _ ((after-wide (search) .wide .ensures)) ((else1 (search) .if1 .left)) ((else2 (search) .if2 .left)) ((start-from-wide (search) .pre)))
 
 clear-accums-requires : tie.Need-clear-accums-requires
 clear-accums-requires c κs = search needs
@@ -69,7 +70,7 @@ same-length-4 : tie.Need-same-length-4
 same-length-4 c = search needs
 
 returns-3 : tie.Need-returns-3
-returns-3 c = fill-model ((start-from-wide (search) .args .sheet .now)) (record { model = record { links = (start-from-wide (search) .args .links .now); axis = (start-from-wide (search) .args .axis .now); times = (start-from-wide (search) .args .times .now); marks = (start-from-wide (search) .args .marks .now) }; positions = (start-from-wide (search) .args .positions .now); words = (start-from-wide (search) .args .accums .now) }) ((start-from-wide (search) .args .header)) _ ((after-wide (search) .wide .ensures)) ((else1 (search) .if1 .left)) ((else2 (search) .if2 .left)) ((start-from-wide (search) .pre)) _ _ _ ((c .before .v .given .1)) ((after-fresh (search) .fresh .ensures))
+returns-3 c = fill-model ((start-from-wide (search) .args .sheet .now)) (lent (start-from-wide (search) .args .links .now) (start-from-wide (search) .args .axis .now) (start-from-wide (search) .args .times .now) (start-from-wide (search) .args .marks .now) (start-from-wide (search) .args .positions .now) (start-from-wide (search) .args .accums .now)) ((start-from-wide (search) .args .header)) _ ((after-wide (search) .wide .ensures)) ((else1 (search) .if1 .left)) ((else2 (search) .if2 .left)) ((start-from-wide (search) .pre)) _ _ _ ((c .before .v .given .1)) ((after-fresh (search) .fresh .ensures))
 
 same-length-5 : tie.Need-same-length-5
 same-length-5 c = search needs
@@ -90,7 +91,7 @@ same-length-10 : tie.Need-same-length-10
 same-length-10 c = search needs
 
 returns-4 : tie.Need-returns-4
-returns-4 c = fill-all ((start-from-wide (search) .args .sheet .now)) (record { model = record { links = (start-from-wide (search) .args .links .now); axis = (start-from-wide (search) .args .axis .now); times = (start-from-wide (search) .args .times .now); marks = (start-from-wide (search) .args .marks .now) }; positions = (start-from-wide (search) .args .positions .now); words = (start-from-wide (search) .args .accums .now) }) ((start-from-wide (search) .args .header)) _ ((after-wide (search) .wide .ensures)) ((else1 (search) .if1 .left)) ((else2 (search) .if2 .left)) ((start-from-wide (search) .pre)) _ _ _ _ ((after-enum-told (search) .enum-told .given .1)) ((after-fresh (search) .fresh .ensures)) ((after-fill-starts (search) .fill-starts .ensures)) ((c .before .clear-accums .ensures))
+returns-4 c = fill-all ((start-from-wide (search) .args .sheet .now)) (lent (start-from-wide (search) .args .links .now) (start-from-wide (search) .args .axis .now) (start-from-wide (search) .args .times .now) (start-from-wide (search) .args .marks .now) (start-from-wide (search) .args .positions .now) (start-from-wide (search) .args .accums .now)) ((start-from-wide (search) .args .header)) _ ((after-wide (search) .wide .ensures)) ((else1 (search) .if1 .left)) ((else2 (search) .if2 .left)) ((start-from-wide (search) .pre)) _ _ _ _ ((after-enum-told (search) .enum-told .given .1)) ((after-fresh (search) .fresh .ensures)) ((after-fill-starts (search) .fill-starts .ensures)) ((c .before .clear-accums .ensures))
 
 pub fill-spec : {M : Type 1} → statement M
 fill-spec =

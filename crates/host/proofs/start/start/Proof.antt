@@ -1,4 +1,5 @@
 use Rattle.run_laws.specs.Starting.{filled-standing, started-is}
+use Rattle.run_laws.specs.Run.{lent}
 use borrow.Author.Needs.{needs}
 use Rattle.host.proofs.start.start.Statement.{statement}
 use Rattle.host.proofs.start.start.Tie as tie
@@ -23,7 +24,7 @@ fill-requires : tie.Need-fill-requires
 fill-requires c κs = (start (search) .pre .ok)
 
 turns-requires : tie.Need-turns-requires
-turns-requires c κs = (filled-standing ((start-from-positions (search) .args .header)) ((start-from-positions (search) .args .sheet .now)) (record { model = record { links = (start-from-positions (search) .args .links .now); axis = (start-from-positions (search) .args .axis .now); times = (start-from-positions (search) .args .times .now); marks = (start-from-positions (search) .args .marks .now) }; positions = (start-from-positions (search) .args .positions .now); words = (start-from-positions (search) .args .accums .now) }) ((start-from-positions (search) .args .trace .now)) ((start-from-positions (search) .pre)) _ _ ((after-fill (search) .fill .ensures)), (start-from-positions (search) .pre .short))
+turns-requires c κs = (filled-standing ((start-from-positions (search) .args .header)) ((start-from-positions (search) .args .sheet .now)) (lent (start-from-positions (search) .args .links .now) (start-from-positions (search) .args .axis .now) (start-from-positions (search) .args .times .now) (start-from-positions (search) .args .marks .now) (start-from-positions (search) .args .positions .now) (start-from-positions (search) .args .accums .now)) ((start-from-positions (search) .args .trace .now)) ((start-from-positions (search) .pre)) _ _ ((after-fill (search) .fill .ensures)), (start-from-positions (search) .pre .short))
 
 same-length : tie.Need-same-length
 same-length c = search needs
@@ -47,7 +48,7 @@ same-length-7 : tie.Need-same-length-7
 same-length-7 c = search needs
 
 returns : tie.Need-returns
-returns c = started-is ((start-from-positions (search) .args .header)) ((start-from-positions (search) .args .sheet .now)) (record { model = record { links = (start-from-positions (search) .args .links .now); axis = (start-from-positions (search) .args .axis .now); times = (start-from-positions (search) .args .times .now); marks = (start-from-positions (search) .args .marks .now) }; positions = (start-from-positions (search) .args .positions .now); words = (start-from-positions (search) .args .accums .now) }) ((start-from-positions (search) .args .trace .now)) ((start-from-positions (search) .pre)) _ _ ((fill-from-positions (search) .fill .ensures)) _ ((after-turns (search) .turns .ensures))
+returns c = started-is ((start-from-positions (search) .args .header)) ((start-from-positions (search) .args .sheet .now)) (lent (start-from-positions (search) .args .links .now) (start-from-positions (search) .args .axis .now) (start-from-positions (search) .args .times .now) (start-from-positions (search) .args .marks .now) (start-from-positions (search) .args .positions .now) (start-from-positions (search) .args .accums .now)) ((start-from-positions (search) .args .trace .now)) ((start-from-positions (search) .pre)) _ _ ((fill-from-positions (search) .fill .ensures)) _ ((after-turns (search) .turns .ensures))
 
 pub start-spec : {M : Type 1} → statement M
 start-spec =

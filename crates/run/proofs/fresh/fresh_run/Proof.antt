@@ -1,5 +1,6 @@
 use Rattle.run_laws.specs.Filling.{filled-8, filled-accepted}
 use mathlib.Core.Path.{sym, _∙_}
+use Rattle.run_laws.specs.Run.{lent}
 use borrow.Author.Needs.{needs}
 use Rattle.run.proofs.fresh.fresh_run.Statement.{statement}
 use Rattle.run.proofs.fresh.fresh_run.Tie as tie
@@ -33,7 +34,7 @@ fill-requires : tie.Need-fill-requires
 fill-requires c κs = sym ((after-check (search) .check .ensures)) ∙ (after-read2 (search) .read2 .given .1)
 
 returns : tie.Need-returns
-returns c = filled-8 ((start (search) .args .sheet .now)) (record { model = record { links = (start (search) .args .links .now); axis = (start (search) .args .axis .now); times = (start (search) .args .times .now); marks = (start (search) .args .marks .now) }; positions = (start (search) .args .positions .now); words = (start (search) .args .accums .now) }) _ ((after-check (search) .check .ensures)) _ ((c .before .read .given .1))
+returns c = filled-8 ((start (search) .args .sheet .now)) (lent (start (search) .args .links .now) (start (search) .args .axis .now) (start (search) .args .times .now) (start (search) .args .marks .now) (start (search) .args .positions .now) (start (search) .args .accums .now)) _ ((after-check (search) .check .ensures)) _ ((c .before .read .given .1))
 
 same-length : tie.Need-same-length
 same-length c = search needs
@@ -54,7 +55,7 @@ same-length-6 : tie.Need-same-length-6
 same-length-6 c = search needs
 
 returns-2 : tie.Need-returns-2
-returns-2 c = filled-accepted ((start-from-check (search) .args .sheet .now)) (record { model = record { links = (start-from-check (search) .args .links .now); axis = (start-from-check (search) .args .axis .now); times = (start-from-check (search) .args .times .now); marks = (start-from-check (search) .args .marks .now) }; positions = (start-from-check (search) .args .positions .now); words = (start-from-check (search) .args .accums .now) }) _ ((after-check (search) .check .ensures)) _ _ ((after-read2 (search) .read2 .given .1)) ((after-fill (search) .fill .ensures))
+returns-2 c = filled-accepted ((start-from-check (search) .args .sheet .now)) (lent (start-from-check (search) .args .links .now) (start-from-check (search) .args .axis .now) (start-from-check (search) .args .times .now) (start-from-check (search) .args .marks .now) (start-from-check (search) .args .positions .now) (start-from-check (search) .args .accums .now)) _ ((after-check (search) .check .ensures)) _ _ ((after-read2 (search) .read2 .given .1)) ((after-fill (search) .fill .ensures))
 
 pub fresh-run-spec : {M : Type 1} → statement M
 fresh-run-spec =

@@ -1,4 +1,5 @@
 use Rattle.run_laws.specs.Judging.{model-sizes, positions-size, words-size, trace-size, tables-not, tables-fine}
+use Rattle.run_laws.specs.Run.{lent}
 use borrow.Author.Needs.{needs}
 use Rattle.run.proofs.judge.judge_run.Statement.{statement}
 use Rattle.run.proofs.judge.judge_run.Tie as tie
@@ -32,7 +33,7 @@ abbrev after-judge-tables : tie.After-judge-tables → tie.After-judge-tables
 after-judge-tables x = x
 
 returns : tie.Need-returns
-returns c = model-sizes ((start (search) .args .c)) ((start (search) .args .records)) (record { model = record { links = (start (search) .args .links .now); axis = (start (search) .args .axis .now); times = (start (search) .args .times .now); marks = (start (search) .args .marks .now) }; positions = (start (search) .args .positions .now); words = (start (search) .args .accums .now) }) ((start (search) .args .len)) _ ((c .before .lengths-fine .ensures)) ((c .if1 .taken))
+returns c = model-sizes ((start (search) .args .c)) ((start (search) .args .records)) (lent (start (search) .args .links .now) (start (search) .args .axis .now) (start (search) .args .times .now) (start (search) .args .marks .now) (start (search) .args .positions .now) (start (search) .args .accums .now)) ((start (search) .args .len)) _ ((c .before .lengths-fine .ensures)) ((c .if1 .taken))
 
 wide-requires : tie.Need-wide-requires
 wide-requires c κs = search needs
@@ -41,13 +42,13 @@ add-if2 : tie.Need-add-if2
 add-if2 c = search needs
 
 returns-2 : tie.Need-returns-2
-returns-2 c = positions-size ((start (search) .args .c)) ((start (search) .args .records)) (record { model = record { links = (start (search) .args .links .now); axis = (start (search) .args .axis .now); times = (start (search) .args .times .now); marks = (start (search) .args .marks .now) }; positions = (start (search) .args .positions .now); words = (start (search) .args .accums .now) }) ((start (search) .args .len)) _ ((after-lengths-fine (search) .lengths-fine .ensures)) ((c .before .before .if1 .left)) _ ((c .before .wide .ensures)) ((c .if2 .taken))
+returns-2 c = positions-size ((start (search) .args .c)) ((start (search) .args .records)) (lent (start (search) .args .links .now) (start (search) .args .axis .now) (start (search) .args .times .now) (start (search) .args .marks .now) (start (search) .args .positions .now) (start (search) .args .accums .now)) ((start (search) .args .len)) _ ((after-lengths-fine (search) .lengths-fine .ensures)) ((c .before .before .if1 .left)) _ ((c .before .wide .ensures)) ((c .if2 .taken))
 
 returns-3 : tie.Need-returns-3
-returns-3 c = words-size ((start (search) .args .c)) ((start (search) .args .records)) (record { model = record { links = (start (search) .args .links .now); axis = (start (search) .args .axis .now); times = (start (search) .args .times .now); marks = (start (search) .args .marks .now) }; positions = (start (search) .args .positions .now); words = (start (search) .args .accums .now) }) ((start (search) .args .len)) _ ((after-lengths-fine (search) .lengths-fine .ensures)) ((else1 (search) .if1 .left)) _ ((c .before .before .wide .ensures)) ((c .before .if2 .left)) ((c .if3 .taken))
+returns-3 c = words-size ((start (search) .args .c)) ((start (search) .args .records)) (lent (start (search) .args .links .now) (start (search) .args .axis .now) (start (search) .args .times .now) (start (search) .args .marks .now) (start (search) .args .positions .now) (start (search) .args .accums .now)) ((start (search) .args .len)) _ ((after-lengths-fine (search) .lengths-fine .ensures)) ((else1 (search) .if1 .left)) _ ((c .before .before .wide .ensures)) ((c .before .if2 .left)) ((c .if3 .taken))
 
 returns-4 : tie.Need-returns-4
-returns-4 c = trace-size ((start (search) .args .c)) ((start (search) .args .records)) (record { model = record { links = (start (search) .args .links .now); axis = (start (search) .args .axis .now); times = (start (search) .args .times .now); marks = (start (search) .args .marks .now) }; positions = (start (search) .args .positions .now); words = (start (search) .args .accums .now) }) ((start (search) .args .len)) _ ((after-lengths-fine (search) .lengths-fine .ensures)) ((else1 (search) .if1 .left)) _ ((after-wide (search) .wide .ensures)) ((c .before .before .if2 .left)) ((c .before .if3 .left)) ((c .if4 .taken))
+returns-4 c = trace-size ((start (search) .args .c)) ((start (search) .args .records)) (lent (start (search) .args .links .now) (start (search) .args .axis .now) (start (search) .args .times .now) (start (search) .args .marks .now) (start (search) .args .positions .now) (start (search) .args .accums .now)) ((start (search) .args .len)) _ ((after-lengths-fine (search) .lengths-fine .ensures)) ((else1 (search) .if1 .left)) _ ((after-wide (search) .wide .ensures)) ((c .before .before .if2 .left)) ((c .before .if3 .left)) ((c .if4 .taken))
 
 judge-tables-requires : tie.Need-judge-tables-requires
 judge-tables-requires c κs = search needs
@@ -62,10 +63,10 @@ judge-positions-requires : tie.Need-judge-positions-requires
 judge-positions-requires c κs = search needs
 
 returns-5 : tie.Need-returns-5
-returns-5 c = tables-not ((start (search) .args .c)) ((start (search) .args .records)) (record { model = record { links = (start (search) .args .links .now); axis = (start (search) .args .axis .now); times = (start (search) .args .times .now); marks = (start (search) .args .marks .now) }; positions = (start (search) .args .positions .now); words = (start (search) .args .accums .now) }) ((start (search) .args .len)) _ ((after-lengths-fine (search) .lengths-fine .ensures)) ((else1 (search) .if1 .left)) _ ((after-wide (search) .wide .ensures)) ((else2 (search) .if2 .left)) ((else3 (search) .if3 .left)) ((else4 (search) .if4 .left)) _ _ ((after-judge-tables (search) .judge-tables .ensures)) ((c .before .tables .given .1))
+returns-5 c = tables-not ((start (search) .args .c)) ((start (search) .args .records)) (lent (start (search) .args .links .now) (start (search) .args .axis .now) (start (search) .args .times .now) (start (search) .args .marks .now) (start (search) .args .positions .now) (start (search) .args .accums .now)) ((start (search) .args .len)) _ ((after-lengths-fine (search) .lengths-fine .ensures)) ((else1 (search) .if1 .left)) _ ((after-wide (search) .wide .ensures)) ((else2 (search) .if2 .left)) ((else3 (search) .if3 .left)) ((else4 (search) .if4 .left)) _ _ ((after-judge-tables (search) .judge-tables .ensures)) ((c .before .tables .given .1))
 
 returns-6 : tie.Need-returns-6
-returns-6 c = tables-fine ((start (search) .args .c)) ((start (search) .args .records)) (record { model = record { links = (start (search) .args .links .now); axis = (start (search) .args .axis .now); times = (start (search) .args .times .now); marks = (start (search) .args .marks .now) }; positions = (start (search) .args .positions .now); words = (start (search) .args .accums .now) }) ((start (search) .args .len)) _ ((after-lengths-fine (search) .lengths-fine .ensures)) ((else1 (search) .if1 .left)) _ ((after-wide (search) .wide .ensures)) ((else2 (search) .if2 .left)) ((else3 (search) .if3 .left)) ((else4 (search) .if4 .left)) _ _ ((after-judge-tables (search) .judge-tables .ensures)) ((c .before .enum-told .given .1)) ((c .judge-positions .ensures))
+returns-6 c = tables-fine ((start (search) .args .c)) ((start (search) .args .records)) (lent (start (search) .args .links .now) (start (search) .args .axis .now) (start (search) .args .times .now) (start (search) .args .marks .now) (start (search) .args .positions .now) (start (search) .args .accums .now)) ((start (search) .args .len)) _ ((after-lengths-fine (search) .lengths-fine .ensures)) ((else1 (search) .if1 .left)) _ ((after-wide (search) .wide .ensures)) ((else2 (search) .if2 .left)) ((else3 (search) .if3 .left)) ((else4 (search) .if4 .left)) _ _ ((after-judge-tables (search) .judge-tables .ensures)) ((c .before .enum-told .given .1)) ((c .judge-positions .ensures))
 
 pub judge-run-spec : {M : Type 1} → statement M
 judge-run-spec =
