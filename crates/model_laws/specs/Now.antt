@@ -32,23 +32,23 @@ abbrev pub AxisSound : ℕ → List ℕ → Type 0
 AxisSound m axis = Sound m axis
 
 -- the place behind x, and the one before it: another notice's, or that of the axis's own head; 0 where x has no notice
-abbrev pub nextOf : List ℕ → ℕ → ℕ
-nextOf axis x = getD axis x 0
+abbrev pub nextPlace : List ℕ → ℕ → ℕ
+nextPlace axis x = getD axis x 0
 
-abbrev pub prevOf : ℕ → List ℕ → ℕ → ℕ
-prevOf m axis x = getD axis (m + x) 0
+abbrev pub prevPlace : ℕ → List ℕ → ℕ → ℕ
+prevPlace m axis x = getD axis (m + x) 0
 
 -- the process at x has no notice
 abbrev pub idleOn : List ℕ → ℕ → Bool
-idleOn axis x = eqb (nextOf axis x) 0
+idleOn axis x = eqb (nextPlace axis x) 0
 
 -- an axis with halves of m words has its own head at m - 1, and the head's successor is the first notice's place
 abbrev pub firstOf : ℕ → List ℕ → ℕ
-firstOf m axis = nextOf axis (m - 1)
+firstOf m axis = nextPlace axis (m - 1)
 
 -- there is no second notice: behind the first stands the head
 abbrev pub loneOn : ℕ → List ℕ → Bool
-loneOn m axis = eqb (nextOf axis (firstOf m axis)) (m - 1)
+loneOn m axis = eqb (nextPlace axis (firstOf m axis)) (m - 1)
 
 -- the first notice's time
 abbrev pub timeOf : ℕ → List ℕ → List ℕ → ℕ

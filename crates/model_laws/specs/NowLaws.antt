@@ -15,7 +15,7 @@ use Rattle.model.specs.declared.Counts.{Counts}
 use Rattle.model.specs.Counts.{linkageAt}
 use Rattle.model_laws.specs.Notices.{Notice, whos, dueOf, places}
 use Rattle.model_laws.specs.Tables.{Tables, Lists, Spells}
-use Rattle.model_laws.specs.Now.{first, current, time, half, firstOf, nextOf, timeOf}
+use Rattle.model_laws.specs.Now.{first, current, time, half, firstOf, nextPlace, timeOf}
 use Rattle.model_laws.specs.AxisJudged.{axis-head}
 use Rattle.model_laws.specs.Formed.{notice-process}
 
@@ -47,7 +47,7 @@ first-process c (n ∷ ns) s f = f (n .who) (inl refl)
 module _ (c : Counts) (l : Lists) (t : Tables) (s : Spells c l t) where
   pub place-now : firstOf (half c) (t .axis) ≡ current l - c .heads
   place-now =
-      ap (λ (i : ℕ). nextOf (t .axis) i) (omega arith)
+      ap (λ (i : ℕ). nextPlace (t .axis) i) (omega arith)
       ∙ sym (suc-at (half c) (t .axis) (c .processes + 1) (omega arith))
       ∙ first-next c (sucs (half c) (t .axis)) (pres (half c) (t .axis)) (c .processes + 1) (c .processes + 1) (l .notices) (s .some)
       (s .axis .rings .ring (c .processes + 1) (axis-head (c .processes)))

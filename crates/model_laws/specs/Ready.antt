@@ -16,7 +16,7 @@ use Rattle.model.specs.declared.verdict.Verdict.the-variants.{Fine}
 use Rattle.model.specs.Counts.{Allowed, total, limit}
 use Rattle.model_laws.specs.Notices.{places}
 use Rattle.model_laws.specs.Tables.{Tables, Lengths, Lists, Sized, setHead, axisHead, membersOf, Spells}
-use Rattle.model_laws.specs.Now.{AxisSound, half, firstOf, nextOf, prevOf}
+use Rattle.model_laws.specs.Now.{AxisSound, half, firstOf, nextPlace, prevPlace}
 use Rattle.model_laws.specs.Judge.{judged}
 use Rattle.model_laws.specs.AxisJudged.{axis-head, axis-event}
 use Rattle.model_laws.specs.Formed.{axis-spelled}
@@ -31,7 +31,7 @@ pub record Ready (c : Counts) (t : Tables) : Type 0 where
   pub first-some : 0 < firstOf (half c) (t .axis)
   pub first-in : firstOf (half c) (t .axis) ≤ c .processes
   -- the first notice stands behind the axis's own head
-  pub first-led : prevOf (half c) (t .axis) (firstOf (half c) (t .axis)) ≡ half c - 1
+  pub first-led : prevPlace (half c) (t .axis) (firstOf (half c) (t .axis)) ≡ half c - 1
 
 pub formed-ready : (c : Counts) (l : Lists) (t : Tables) → Sized c t → Spells c l t → Ready c t
 formed-ready c l t z w =
@@ -40,7 +40,7 @@ formed-ready c l t z w =
     (axis-event (c .processes) (t .axis) (places c (l .notices)) (s .ring)) in
     let head : c .processes + 1 ≡ half c - 1 = omega arith in
     let at : sucs (half c) (t .axis) (c .processes + 1) ≡ firstOf (half c) (t .axis) =
-    suc-at (half c) (t .axis) (c .processes + 1) (omega arith) ∙ ap (λ (i : ℕ). nextOf (t .axis) i) head in
+    suc-at (half c) (t .axis) (c .processes + 1) (omega arith) ∙ ap (λ (i : ℕ). nextPlace (t .axis) i) head in
     record {
       allowed = z .allowed;
       lengths = z .lengths;

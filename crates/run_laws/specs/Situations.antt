@@ -18,7 +18,7 @@ use Rattle.model.specs.declared.answer.Answer.the-variants.{Done, Linkage, Numb
 use Rattle.model.specs.declared.call.SetCall.the-variants.{Follow, Into}
 use Rattle.model_laws.specs.Notices.{Notice}
 use Rattle.model_laws.specs.Tables.{Tables, After}
-use Rattle.model_laws.specs.Now.{nextOf}
+use Rattle.model_laws.specs.Now.{nextPlace}
 use Rattle.model_laws.specs.Fresh.{freshHeads, freshAxis, freshTables}
 use Rattle.model_laws.specs.Result.{done, refused, Result}
 use Rattle.simset_laws.specs.Procedures.{followOn, followed, precedeOn, preceded}
@@ -90,7 +90,7 @@ same (n ∷ ns) (k ∷ ks) = eqb (n .who) (k .who) && eqb (n .due) (k .due) && s
 
 abbrev noticesFrom : Tables → ℕ → ℕ → List Notice
 noticesFrom t zero p = []
-noticesFrom t (suc k) p = if eqb p 5 then [] else at (1 + p) (getD (t .times) p 0) ∷ noticesFrom t k (nextOf (t .axis) p)
+noticesFrom t (suc k) p = if eqb p 5 then [] else at (1 + p) (getD (t .times) p 0) ∷ noticesFrom t k (nextPlace (t .axis) p)
 
 abbrev machineMeets : Result Machine → Want → Bool
 machineMeets (refused r) (axis l) = false
@@ -108,7 +108,7 @@ answerIs (Number n) k = false
 answerIs (Truth b) k = false
 
 abbrev tablesMeet : After Answer → Want → Bool
-tablesMeet r (axis ns) = going (r .answer) && same (noticesFrom (r .tables) 5 (nextOf (r .tables .axis) 5)) ns
+tablesMeet r (axis ns) = going (r .answer) && same (noticesFrom (r .tables) 5 (nextPlace (r .tables .axis) 5)) ns
 tablesMeet r (number k) = answerIs (r .answer) k
 tablesMeet r (outside x) = going (r .answer) && eqb (getD (r .tables .links) x 0) 0 && eqb (getD (r .tables .links) (6 + x) 0) 0
 

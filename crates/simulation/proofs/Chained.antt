@@ -12,7 +12,7 @@ use Rattle.model.specs.Counts.{limit}
 use Rattle.model.specs.declared.Refusal.the-variants.{NoNotice, TimeLimit}
 use Rattle.model.specs.declared.answer.Answer.{Answer}
 use Rattle.model.specs.declared.answer.Answer.the-variants.{Done, Refused}
-use Rattle.model_laws.specs.Now.{AxisSound, firstOf, nextOf, prevOf, idleOn, timeOf}
+use Rattle.model_laws.specs.Now.{AxisSound, firstOf, nextPlace, prevPlace, idleOn, timeOf}
 use Rattle.simulation_laws.specs.Procedures.{Sqs, made, found, dropOn, putOn, heldAt, held, passivated, cancelled, finishedMarks, dueAt, placeFor, putByClause, activated}
 use Rattle.simulation_laws.specs.Promise.{sqs, Left, Answers, AnswersMarked, Place, Stored, Read, Lone, Vain, Beside, Due, capped-in, capped-out}
 
@@ -46,8 +46,8 @@ module _ (m : ℕ) (a t : List ℕ) where
       }
 
   -- hold
-  module _ (x u c s f : ℕ) (ec : c ≡ x) (pf : Place m (nextOf a x) f) (es : s ≡ f) where
-    at-x : nextOf a x ≡ s
+  module _ (x u c s f : ℕ) (ec : c ≡ x) (pf : Place m (nextPlace a x) f) (es : s ≡ f) where
+    at-x : nextPlace a x ≡ s
     at-x = sym (es ∙ pf .is)
 
     pub held-last : (t′ : List ℕ) → AxisSound m a → s ≡ m - 1 → Stored c u t t′ → Left m (heldAt m x u (sqs a t)) a t′
@@ -124,7 +124,7 @@ module _ (m : ℕ) (a t : List ℕ) where
 
   -- where the new notice stands
   module _ (k y now u : ℕ) where
-    pub place-5 : (q : ℕ) → k ≡ 5 → Place m (prevOf m a y) q → Place m (placeFor m k y now u (sqs a t)) q
+    pub place-5 : (q : ℕ) → k ≡ 5 → Place m (prevPlace m a y) q → Place m (placeFor m k y now u (sqs a t)) q
     unfolding placeFor
     place-5 q e p = record { is = rw (eq-eqb k 5 e) (p .is); within = p .within }
 

@@ -3,7 +3,7 @@ use ring::wide;
 ghost use mathlib.Core.Path.{_≡_};
 ghost use Prim.Native.Nat.{_<_};
 ghost use lib.ListN.{length};
-ghost use Rattle.model_laws.specs.Now.{AxisSound, firstOf, nextOf, prevOf, idleOn};
+ghost use Rattle.model_laws.specs.Now.{AxisSound, firstOf, nextPlace, prevPlace, idleOn};
 ghost use Rattle.simulation_laws.specs.Procedures.{found};
 ghost use Rattle.simulation_laws.specs.Promise.{sqs, Place, Read, Lone};
 
@@ -19,7 +19,7 @@ pub fn first(axis: &[u32], m: usize) -> u32
 pub fn next(axis: &[u32], m: usize, x: u32) -> u32
     requires { ⌜ AxisSound m (now axis) ⌝ }
     requires { ⌜ x < m ⌝ }
-    ensures { λ r. ⌜ Place m (nextOf (now (axis .entry)) x) r ⌝ }
+    ensures { λ r. ⌜ Place m (nextPlace (now (axis .entry)) x) r ⌝ }
 {
     let i = wide(x);
     axis[i]
@@ -29,7 +29,7 @@ pub fn next(axis: &[u32], m: usize, x: u32) -> u32
 pub fn prev(axis: &[u32], m: usize, x: u32) -> u32
     requires { ⌜ AxisSound m (now axis) ⌝ }
     requires { ⌜ x < m ⌝ }
-    ensures { λ r. ⌜ Place m (prevOf m (now (axis .entry)) x) r ⌝ }
+    ensures { λ r. ⌜ Place m (prevPlace m (now (axis .entry)) x) r ⌝ }
 {
     axis[m + wide(x)]
 }

@@ -16,7 +16,7 @@ use Rattle.model.specs.declared.Refusal.the-variants.{NoNotice}
 use Rattle.model.specs.Counts.{main, isHead, isProcess}
 use Rattle.model_laws.specs.Notices.{Notice, whos}
 use Rattle.model_laws.specs.Tables.{Tables, Lists, Spells}
-use Rattle.model_laws.specs.Now.{first, current, half, firstOf, nextOf}
+use Rattle.model_laws.specs.Now.{first, current, half, firstOf, nextPlace}
 use Rattle.model_laws.specs.Result.{done, refused}
 use Rattle.simset_laws.specs.Calls.{orNone}
 use Rattle.simset_laws.specs.Sets.{precedeSets}
@@ -74,11 +74,11 @@ module _ (c : Counts) (ns : List Notice) (a : Sqs) (sp : SpellsTime c ns a) wher
       test (hasNotice x ns)
       (λ h. absurd (omega (arith, is-process c ns a sp x (has-in x ns h))))
       (λ h. let z : x - c .heads ≡ 0 = omega arith in
-      rw (h, z) (eq-eqb (nextOf (a .axis) 0) 0 (sym (getD-take (half c) (a .axis) 0 0 (omega arith)) ∙ sp .axis .rings .zero-s)))
+      rw (h, z) (eq-eqb (nextPlace (a .axis) 0) 0 (sym (getD-take (half c) (a .axis) 0 0 (omega arith)) ∙ sp .axis .rings .zero-s)))
   idle-has x (Party.proc p) =
       test (hasNotice x ns)
-      (λ h. rw h (ne-eqb (nextOf (a .axis) (x - c .heads)) 0 (λ q. omega (arith, linked c ns a sp x (has-in x ns h)))))
-      (λ h. rw h (eq-eqb (nextOf (a .axis) (x - c .heads)) 0 (idle-is c ns a sp x p (has-none x ns h))))
+      (λ h. rw h (ne-eqb (nextPlace (a .axis) (x - c .heads)) 0 (λ q. omega (arith, linked c ns a sp x (has-in x ns h)))))
+      (λ h. rw h (eq-eqb (nextPlace (a .axis) (x - c .heads)) 0 (idle-is c ns a sp x p (has-none x ns h))))
 
 module _ (c : Counts) (M : Lists) (t : Tables) (sp : Spells c M t) (n : Notice) (ns : List Notice) (e : M .notices ≡ n ∷ ns) where
   pub passivate-agrees : Agrees c t (passivate M) (passivated (half c) (sqsOf t))

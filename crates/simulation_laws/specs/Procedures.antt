@@ -14,7 +14,7 @@ use Rattle.model.specs.declared.Refusal.the-variants.{NoNotice, TimeLimit}
 use Rattle.model.specs.Counts.{limit}
 use Rattle.model.specs.declared.answer.Answer.{Answer}
 use Rattle.model.specs.declared.answer.Answer.the-variants.{Done, Refused}
-use Rattle.model_laws.specs.Now.{firstOf, nextOf, prevOf, idleOn, loneOn, timeOf}
+use Rattle.model_laws.specs.Now.{firstOf, nextPlace, prevPlace, idleOn, loneOn, timeOf}
 
 -- the sequencing set: two lent tables
 pub record Sqs : Type 0 where
@@ -36,10 +36,10 @@ turnedDown r a = record { answer = Refused r; left = a }
 
 -- suc, pred and idle
 abbrev pub nextOn : Sqs → ℕ → ℕ
-nextOn a x = nextOf (a .axis) x
+nextOn a x = nextPlace (a .axis) x
 
 abbrev pub prevOn : ℕ → Sqs → ℕ → ℕ
-prevOn m a x = prevOf m (a .axis) x
+prevOn m a x = prevPlace m (a .axis) x
 
 abbrev pub idleAt : Sqs → ℕ → Bool
 idleAt a x = idleOn (a .axis) x
@@ -55,7 +55,7 @@ seekFrom m times w t zero f b = b
 seekFrom m times w t (suc k) f b =
     if eqb b (m - 1) then b
     else (if ltb (getD times b 0) w then b
-    else (if leb w (getD times f 0) then prevOf m t f else seekFrom m times w t k (nextOf t f) (prevOf m t b)))
+    else (if leb w (getD times f 0) then prevPlace m t f else seekFrom m times w t k (nextPlace t f) (prevPlace m t b)))
 
 unfoldable pub found : ℕ → ℕ → Sqs → ℕ
 found m w a = seekFrom m (a .times) w (a .axis) m (firstOf m (a .axis)) (prevOn m a (m - 1))

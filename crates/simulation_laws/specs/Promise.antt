@@ -14,7 +14,7 @@ use Rattle.model.specs.Counts.{limit, Allowed}
 use Rattle.model_laws.specs.Tables.{Tables}
 use Rattle.model_laws.specs.Ready.{Ready}
 use Rattle.model.specs.declared.answer.Answer.{Answer}
-use Rattle.model_laws.specs.Now.{AxisSound, half, firstOf, prevOf, idleOn, loneOn}
+use Rattle.model_laws.specs.Now.{AxisSound, half, firstOf, prevPlace, idleOn, loneOn}
 use Rattle.simulation_laws.specs.Procedures.{Sqs, Outcome, vain, dueAt}
 
 abbrev pub sqs : List ℕ → List ℕ → Sqs
@@ -97,7 +97,7 @@ pub record AnswersMarked (m : ℕ) (want : Outcome) (wantMarks : List ℕ) (axis
 pub record First (m x : ℕ) (axis times : List ℕ) : Type 0 where
   pub within : x < m
   pub small : m ≤ 1026
-  pub led : prevOf m axis x ≡ m - 1
+  pub led : prevPlace m axis x ≡ m - 1
   pub timed : x < length times
   pub full : length times + 1 ≡ m
 

@@ -28,7 +28,7 @@ use Rattle.simulation_laws.specs.Procedures.{Sqs, idleAt}
 use Rattle.simulation_laws.specs.Calls.{sqsOf, currentTold, timeTold, idleTold, terminatedTold, evtimeTold, nextevTold}
 use Rattle.model_laws.specs.Reading.{who-place}
 use Rattle.model_laws.specs.NowLaws.{Split, splits, current-now, time-now}
-use Rattle.model_laws.specs.Now.{time, current, half, nextOf}
+use Rattle.model_laws.specs.Now.{time, current, half, nextPlace}
 use Rattle.simulation_laws.specs.Places.{SpellsTime, Process, chain, off-head, is-process, times-at, member}
 use Rattle.simulation_laws.specs.Agree.{its-time, st}
 use Rattle.simulation_laws.specs.AgreeEnds.{Party, has-in, idle-has}
@@ -132,7 +132,7 @@ module _ (c : Counts) (l : Lists) (t : Tables) (w : Sized c t) (s : Spells c l t
         test (hasNotice x (l .notices))
         (λ h.
         let i : In x (whos (l .notices)) = has-in x (l .notices) h in
-        let at : sucs (half c) (t .axis) (x - c .heads) ≡ nextOf (t .axis) (x - c .heads) =
+        let at : sucs (half c) (t .axis) (x - c .heads) ≡ nextPlace (t .axis) (x - c .heads) =
         getD-take (half c) (t .axis) (x - c .heads) 0 (member c (l .notices) a spt (x - c .heads) (who-place c (l .notices) x i) .within) in
         rw (idle-is (process-of c x g), h)
         (subst (λ (v : ℕ). (if eqb v (half c - 1) then Linkage 0 else Linkage (linkageAt c v)) ≡ Linkage (nextAfter x (l .notices))) at

@@ -17,7 +17,7 @@ use Rattle.model.specs.declared.Refusal.the-variants.{Idle}
 use Rattle.model.specs.Counts.{isProcess, placeOf, linkageAt}
 use Rattle.model.specs.declared.answer.Answer.{Answer}
 use Rattle.model.specs.declared.answer.Answer.the-variants.{Linkage, Number, Truth, Refused}
-use Rattle.model_laws.specs.Now.{half, firstOf, nextOf, idleOn}
+use Rattle.model_laws.specs.Now.{half, firstOf, nextPlace, idleOn}
 use Rattle.simulation_laws.specs.Procedures.{Sqs, Outcome}
 use Rattle.simulation_laws.specs.Calls.{Marked, Waited, onSqs, onMarks, onSets, currentTold, timeTold, idleTold, evtimeTold, nextevTold}
 use Rattle.simulation_laws.specs.Promise.{sqs, Answers, Place, Read}
@@ -57,16 +57,16 @@ module _ (c : Counts) (axis times : List ℕ) where
     unfolding nextevTold
     nextev-idle z = rw (ok, ← eq, sym is ∙ z)
 
-    module _ (n : b ≡ false) (m s w : ℕ) (em : m ≡ half c) (ps : Place m (nextOf axis q) s) (ew : w ≡ s) where
+    module _ (n : b ≡ false) (m s w : ℕ) (em : m ≡ half c) (ps : Place m (nextPlace axis q) s) (ew : w ≡ s) where
       pub nextev-last : w ≡ m - 1 → Linkage 0 ≡ nextevTold c x (sqs axis times)
       unfolding nextevTold
       nextev-last e =
-          rw (ok, ← eq, sym is ∙ n, eq-eqb (nextOf axis q) (half c - 1) (omega (arith, ps .is)))
+          rw (ok, ← eq, sym is ∙ n, eq-eqb (nextPlace axis q) (half c - 1) (omega (arith, ps .is)))
 
       pub nextev-next : (v : ℕ) → w ≢ m - 1 → v ≡ c .heads + s → Linkage v ≡ nextevTold c x (sqs axis times)
       unfolding nextevTold
       nextev-next v d e =
-          rw (ok, ← eq, sym is ∙ n, ne-eqb (nextOf axis q) (half c - 1) (λ z. d (omega (arith, ps .is)))) (ap Linkage (e ∙ ap (λ (j : ℕ). c .heads + j) (ps .is)))
+          rw (ok, ← eq, sym is ∙ n, ne-eqb (nextPlace axis q) (half c - 1) (λ z. d (omega (arith, ps .is)))) (ap Linkage (e ∙ ap (λ (j : ℕ). c .heads + j) (ps .is)))
 
 -- ---- calls seen on the whole model
 

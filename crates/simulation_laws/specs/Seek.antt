@@ -13,7 +13,7 @@ use Rattle.ring_laws.specs.Stores.{sucs, pres}
 use Rattle.model.specs.declared.Counts.{Counts}
 use Rattle.model_laws.specs.Notices.{Notice, places, From, InOrder}
 use Rattle.model_laws.specs.Reading.{Timed}
-use Rattle.model_laws.specs.Now.{nextOf, prevOf}
+use Rattle.model_laws.specs.Now.{nextPlace, prevPlace}
 use Rattle.simulation_laws.specs.Procedures.{seekFrom}
 use Rattle.simulation_laws.specs.ByDue.{spotIn}
 
@@ -35,12 +35,12 @@ module _ (m : ℕ) (times : List ℕ) (w : ℕ) (t : List ℕ) where
       (λ e. rw (eq-eqb b (m - 1) e))
       (λ n. rw (ne-eqb b (m - 1) n, lt-ltb (getD times b 0) w l))
 
-  pub seek-front : (k f b : ℕ) → b ≢ m - 1 → w ≤ getD times b 0 → w ≤ getD times f 0 → seekFrom m times w t (suc k) f b ≡ prevOf m t f
+  pub seek-front : (k f b : ℕ) → b ≢ m - 1 → w ≤ getD times b 0 → w ≤ getD times f 0 → seekFrom m times w t (suc k) f b ≡ prevPlace m t f
   unfolding seekFrom
   seek-front k f b n l h = rw (ne-eqb b (m - 1) n, le-ltb (getD times b 0) w l, le-leb w (getD times f 0) h)
 
   pub seek-on : (k f b : ℕ) → b ≢ m - 1 → w ≤ getD times b 0 → getD times f 0 < w
-      → seekFrom m times w t (suc k) f b ≡ seekFrom m times w t k (nextOf t f) (prevOf m t b)
+      → seekFrom m times w t (suc k) f b ≡ seekFrom m times w t k (nextPlace t f) (prevPlace m t b)
   unfolding seekFrom
   seek-on k f b n l h = rw (ne-eqb b (m - 1) n, le-ltb (getD times b 0) w l, lt-leb w (getD times f 0) h)
 
