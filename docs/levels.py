@@ -27,7 +27,7 @@ This page is made by `python3 docs/levels.py` from `crates.txt`, and must be mad
 
 A crate is built on crates of lower levels alone: level 0 on nothing, any other stands one above the highest that it is built on. A column
 is a family: `_laws` in the column `ring` is the crate `ring_laws`. `_laws` hold definitions and laws, `_judge` and `_check` test what is
-lent, `_axis`, `_step`, `_turns`, `_fresh` and `_update` are parts of code; a family's own name is its code, or all of it.
+lent, and the others, `_axis`, `_step`, `_update` and so on, are parts of code; a family's own name is its code, or all of it.
 """
 
 

@@ -1,8 +1,8 @@
 // The public calls of accum: lent the whole model, refusing in the order 1, 2, 3, 7. A refused call changes no word.
-use crate::judge::judge_list;
-use crate::judge::list_fine;
-use crate::judge::number_fine;
-use crate::judge::time_of;
+use accum_judge::judge_list;
+use accum_judge::list_fine;
+use accum_judge::number_fine;
+use accum_judge::time_of;
 use accum_laws::Accumulator;
 use accum_laws::Kept;
 use accum_laws::Updated;

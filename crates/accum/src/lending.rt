@@ -1,11 +1,11 @@
 // Calls with plain parameters above the lent forms: an accumulator, or the first of 64, in a local that is lent to the form.
-use crate::gather::gather;
-use crate::gather::spread;
-use crate::judge::list_fine;
 use crate::lent::accum_at;
 use crate::lent::accum_one;
+use accum_judge::list_fine;
 use accum_laws::Accumulator;
 use accum_laws::Kept;
+use accum_update::gather::gather;
+use accum_update::gather::spread;
 use model::Counts;
 use model::Refusal;
 use model::answer::Answer;

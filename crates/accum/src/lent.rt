@@ -1,7 +1,7 @@
 // Accumulators lent as structs: thin functions over the calls by value.
 use crate::calls::accum_alone;
 use crate::calls::accum_at_time;
-use crate::judge::pick;
+use accum_judge::pick;
 use accum_laws::Accumulator;
 use model::Counts;
 use model::answer::Answer;

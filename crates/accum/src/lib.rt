@@ -1,6 +1,4 @@
 // The public calls of accum: on an accumulator by value, in a flat list, and lent as a struct or in a slice of structs.
 pub mod calls;
-mod gather;
-pub mod judge;
 pub mod lending;
 pub mod lent;

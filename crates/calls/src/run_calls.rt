@@ -3,9 +3,9 @@ use calls_served::reply::Reply;
 use calls_served::reply::accepted;
 use calls_served::reply::refused;
 use model::verdict::Verdict;
-use run::answer::end_code;
 use run::fresh::fresh_run;
 use run::run;
+use run_answer::end_code;
 
 pub(crate) fn has(call: u32) -> bool {
     if call == 42 {

@@ -2,11 +2,11 @@
 use calls_served::reply::Reply;
 use machine::End;
 use model::Counts;
-use run::answer::end_code;
 use run::run;
+use run_answer::end_code;
 use run_laws::Ran;
 use run_laws::Turn;
-use run_turns::turn::turn;
+use run_turn::turn::turn;
 use sheet::header::Checked;
 use sheet::header::Header;
 use sheet_check::check::check;

@@ -4,7 +4,7 @@ mod start;
 use crate::start::start;
 use model::Refusal;
 use ring::wide;
-use run::answer::number;
+use run_answer::number;
 use run_laws::RUN_WORDS;
 use run_laws::TRACE_LIMIT;
 use sheet::header::Checked;

@@ -1,7 +1,7 @@
 // A fresh run and its first call in one: the check of the sheet and the tables' lengths are the caller's, and nothing is judged again.
 use run_fresh::fill;
 use run_laws::Ran;
-use run_turns::turns::turns;
+use run_turns::turns;
 use sheet::header::Header;
 ghost use mathlib.Core.Path.{_≡_};
 ghost use Rattle.run_laws.specs.Run.{lent};

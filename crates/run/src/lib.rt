@@ -1,15 +1,12 @@
 // The runner of model sheets: a run goes on from its lent tables, turn by turn, and writes a line for each accepted step.
-pub mod answer;
 pub mod fresh;
-mod judge;
-mod positions;
 
-use crate::judge::judge_run;
 use machine::End;
 use model::Refusal;
 use model::verdict::Verdict;
+use run_judge::judge_run;
 use run_laws::Ran;
-use run_turns::turns::turns;
+use run_turns::turns;
 use sheet::header::Checked;
 use sheet::header::Header;
 use sheet_check::check::check;

@@ -18,8 +18,8 @@ use Rattle.simulation_laws.specs.Procedures.{putByClause, activated}
 use Rattle.simulation_laws.specs.Calls.{timedStep}
 use Rattle.simulation_laws.specs.Promise.{sqs, Left, Answers, Noticed, Vain, capped-fine, capped-over}
 use Rattle.simulation_laws.specs.StepPromise.{need-x, need-plain, refused-3, passed-3}
-use Rattle.simulation.proofs.Arms.{beside-not, due-direct, due-two}
-use Rattle.simulation.proofs.Chained.{active-5, active-0}
+use Rattle.simulation_procedures.proofs.Arms.{beside-not, due-direct, due-two}
+use Rattle.simulation_procedures.proofs.Chained.{active-5, active-0}
 
 -- its time is the first notice's
 pub active-now : (m x f time : ℕ) (a t marks : List ℕ) (v : Bool) → Vain false 0 x 0 marks a v → v ≡ false → Noticed m f time a t

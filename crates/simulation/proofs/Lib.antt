@@ -1,4 +1,2 @@
 -- laws that the proofs of the code cite
-pub mod Chained
-pub mod Arms
 pub mod ByFirst

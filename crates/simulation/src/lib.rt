@@ -1,6 +1,3 @@
-// The time axis of SIMULATION: the sequencing set on lent tables, the published procedures, and the calls on the tables of a judged model.
-pub mod activation;
-pub mod axis;
-pub mod procedures;
+// The calls of SIMULATION on the tables of a judged model, and the short ways that runs take.
 pub mod soon;
 pub mod steps;

@@ -1,13 +1,13 @@
 // Activation with no clause and after a delay, where the first notice's place and time are known: the short ways that runs take.
-use crate::activation::above_zero;
-use crate::activation::is_vain;
-use crate::activation::schedule;
 use crate::steps::process_or_none;
 use model::Counts;
 use model::Refusal;
 use model::TIME_LIMIT;
 use model::answer::Answer;
 use ring::wide;
+use simulation_procedures::activation::above_zero;
+use simulation_procedures::activation::is_vain;
+use simulation_procedures::activation::schedule;
 ghost use mathlib.Core.Bool.{false};
 ghost use Prim.Native.Nat.{_<_, _≤_};
 ghost use lib.IntN.{pos};

@@ -1,8 +1,4 @@
 // The sequencing calls on the tables of a judged model: refusal 3 by the operands' kinds, or the procedure. Runs use these too.
-use crate::activation;
-use crate::activation::above_zero;
-use crate::axis::drop_first;
-use crate::procedures;
 use model::Counts;
 use model::Refusal;
 use model::answer::Answer;
@@ -11,6 +7,10 @@ use simset::procedures::precede;
 use simset::steps::head_or_none;
 use simulation_axis::first;
 use simulation_axis::lone;
+use simulation_procedures::activation;
+use simulation_procedures::activation::above_zero;
+use simulation_procedures::axis::drop_first;
+use simulation_procedures::procedures;
 ghost use mathlib.Core.Path.{_≡_};
 ghost use Prim.Native.Nat.{_+_, _-_, _<_, _≤_};
 ghost use Rattle.ring_laws.specs.Table.{Sound};

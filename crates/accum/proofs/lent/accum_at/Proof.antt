@@ -63,10 +63,10 @@ use Rattle.accum_laws.proofs.Kept as U
 use Rattle.accum_laws.proofs.Kept.Laws as U′
 use Rattle.accum_laws.proofs.Picked as P
 use Rattle.accum_laws.proofs.Picked.Laws as P′
-use Rattle.accum.proofs.judge.pick as picks
-use Rattle.accum.proofs.judge.pick.Symbol as picks-def
-use Rattle.accum.proofs.judge.pick.Symbol.{name as #pick}
-use Rattle.accum.proofs.judge.pick.Met as picks-thm
+use Rattle.accum_judge.proofs.pick as picks
+use Rattle.accum_judge.proofs.pick.Symbol as picks-def
+use Rattle.accum_judge.proofs.pick.Symbol.{name as #pick}
+use Rattle.accum_judge.proofs.pick.Met as picks-thm
 use Rattle.accum.proofs.calls.accum_at_time as step
 use Rattle.accum.proofs.calls.accum_at_time.Symbol as step-def
 use Rattle.accum.proofs.calls.accum_at_time.Symbol.{name as #step}
@@ -267,5 +267,5 @@ accum-at-spec 𝓤 H 𝓜 𝓖 𝓡 =
     entered 𝓤 H (tripleOf 𝓤 H (𝓖 .A) this.signature (this.spec 𝓤 H (𝓖 .A) (𝓜 .mem) (𝓡 .run)))
     (tables 𝓤 H 𝓜 𝓡 code.env .C) (tables 𝓤 H 𝓜 𝓡 code.env .Λ) #at code.function (code.unfolded 𝓤 H 𝓜 𝓡)
     (at-meets 𝓤 H (𝓖 .A) (givenOf 𝓤 H 𝓜 𝓖) (𝓜 .mem) (𝓡 .run) (tablesOf 𝓤 H 𝓜 (tables 𝓤 H 𝓜 𝓡 code.env))
-    (cited 𝓤 H (Picks 𝓤 H (𝓖 .A) (𝓜 .mem) (𝓡 .run)) 𝓜 𝓡 code.env #pick picks-def.routine code.calls-accum·judge·pick (picks-thm.met 𝓤 H 𝓜 𝓖 𝓡))
+    (cited 𝓤 H (Picks 𝓤 H (𝓖 .A) (𝓜 .mem) (𝓡 .run)) 𝓜 𝓡 code.env #pick picks-def.routine code.calls-accum-judge·pick (picks-thm.met 𝓤 H 𝓜 𝓖 𝓡))
     (cited 𝓤 H (Step 𝓤 H (𝓖 .A) (𝓜 .mem) (𝓡 .run)) 𝓜 𝓡 code.env #step step-def.routine code.calls-accum·calls·accum-at-time (step-thm.met 𝓤 H 𝓜 𝓖 𝓡)))

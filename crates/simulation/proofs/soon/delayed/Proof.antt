@@ -1,5 +1,5 @@
 use mathlib.Core.Path.{refl}
-use Rattle.simulation.proofs.Chained.{vain-0}
+use Rattle.simulation_procedures.proofs.Chained.{vain-0}
 use Rattle.simulation.proofs.ByFirst.{late-5, late-0}
 use borrow.Author.Needs.{needs}
 use native.Mathlib.Omega.{arith}

@@ -1,4 +1,4 @@
-use Rattle.simulation.proofs.Chained.{vain-0}
+use Rattle.simulation_procedures.proofs.Chained.{vain-0}
 use Rattle.simulation.proofs.ByFirst.{active-now}
 use borrow.Author.Needs.{needs}
 use native.Mathlib.Omega.{arith}

@@ -1,0 +1,94 @@
+// A stretch of turns on judged tables, with no call that is made apart: the loop that nearly all steps are made in. Current's place, its
+// time and the record that it is at are kept beside the tables; place and time are read again only after a call that may change the first
+// notice, and the record goes to the table when another process is current and when the stretch ends.
+use model::Counts;
+use run_laws::Effect;
+use run_laws::Pause;
+use run_laws::Stretch;
+use run_step::move_on;
+use run_step::perform::perform;
+use run_step::place;
+use run_step::reading::next_of;
+use run_step::reading::place_now;
+use run_step::reading::position;
+use run_step::reading::record_of;
+use run_step::reading::time_of;
+use run_step::write;
+use trace::LINE_BYTES;
+ghost use Prim.Native.Nat.{_-_, _/_, _≤_};
+ghost use lib.ListN.{length};
+ghost use Rattle.run_laws.specs.Run.{lent, turnsOn};
+ghost use Rattle.run_laws.specs.Standing.{Standing};
+ghost use Rattle.run_laws.specs.Paused.{Paused};
+ghost use Rattle.machine.specs.Run.{lineSize, traceLimit};
+
+// From a trace of so many lines on, until it has room lines; the trace's place is counted in bytes.
+pub fn stretch(
+    c: Counts,
+    sheet: &[u8],
+    links: &mut [u32],
+    axis: &mut [u32],
+    times: &mut [u64],
+    marks: &[u8],
+    positions: &mut [u32],
+    accums: &mut [i64],
+    trace: &mut [u8],
+    lines: usize,
+    room: usize,
+) -> Stretch
+    requires { ⌜ Standing c (now sheet) (lent (now links) (now axis) (now times) (now marks) (now positions) (now accums)) ⌝ }
+    requires { ⌜ length (now trace) ≤ traceLimit ⌝ }
+    requires { ⌜ lines ≤ room ⌝ }
+    requires { ⌜ room ≤ length (now trace) / lineSize ⌝ }
+    ensures { λ s. ⌜ Paused c (now (sheet .entry)) room lines
+        (turnsOn c (now (sheet .entry)) lines (room - lines) (lent (now (links .entry)) (now (axis .entry)) (now (times .entry)) (now (marks .entry)) (now (positions .entry)) (now (accums .entry))) (now (trace .entry)))
+        (now (trace .entry)) (lent (now (links .exit)) (now (axis .exit)) (now (times .exit)) (now (marks .exit)) (now (positions .exit)) (now (accums .exit))) (now (trace .exit)) s ⌝ }
+{
+    let end = LINE_BYTES * room;
+    let mut at = LINE_BYTES * lines;
+    let mut f = place_now(c, axis);
+    let mut time = time_of(times, f);
+    let mut r = record_of(positions, f);
+    while at < end {
+        match perform(c, sheet, r, f, time, links, axis, times, marks, accums) {
+            Effect::Stays => {
+                write(c, trace, f, time, r, at);
+                r = next_of(sheet, c.processes, r);
+                at += LINE_BYTES;
+            }
+            Effect::Jumps(y) => {
+                write(c, trace, f, time, r, at);
+                r = y;
+                at += LINE_BYTES;
+            }
+            Effect::Moves => {
+                let next = next_of(sheet, c.processes, r);
+                move_on(c, positions, trace, f, time, r, at, next);
+                let g = place_now(c, axis);
+                r = position(positions, g, f, next);
+                time = time_of(times, g);
+                f = g;
+                at += LINE_BYTES;
+            }
+            Effect::Apart => {
+                place(positions, f, r);
+                return Stretch {
+                    lines: at / LINE_BYTES,
+                    pause: Pause::Apart,
+                };
+            }
+            Effect::Refused(q) => {
+                place(positions, f, r);
+                return Stretch {
+                    lines: at / LINE_BYTES,
+                    pause: Pause::Refused(q),
+                };
+            }
+        }
+    }
+    place(positions, f, r);
+    Stretch {
+        lines: at / LINE_BYTES,
+        pause: Pause::Full,
+    }
+}
