@@ -39,9 +39,6 @@ pub(crate) fn known(call: u32) -> bool {
     if run_calls::has(call) {
         return true;
     }
-    if turn_call::has(call) {
-        return true;
-    }
     if sheet_call::has(call) {
         return true;
     }
@@ -93,6 +90,9 @@ pub(crate) fn answer(
     trace: &mut [u8],
 ) -> Reply {
     let call = head.call;
+    if turn_call::has(call, trace.len()) {
+        return turn_call::answer(links, axis, times, marks, accums, positions, sheet, trace);
+    }
     if run_calls::has(call) {
         return run_calls::answer(
             call,
@@ -105,9 +105,6 @@ pub(crate) fn answer(
             sheet,
             trace,
         );
-    }
-    if turn_call::has(call) {
-        return turn_call::answer(links, axis, times, marks, accums, positions, sheet, trace);
     }
     if sheet_call::has(call) {
         return sheet_call::answer(sheet);

@@ -1,4 +1,4 @@
-// Calls 40 and 42: a run of the sheet, going on from the tables of the request; and the tables of a fresh run.
+// Calls 40 and 43: a run of the sheet, going on from the tables of the request; and 42: the tables of a fresh run.
 use calls_served::reply::Reply;
 use calls_served::reply::accepted;
 use calls_served::reply::refused;
@@ -9,6 +9,9 @@ use run_answer::end_code;
 
 pub(crate) fn has(call: u32) -> bool {
     if call == 42 {
+        return true;
+    }
+    if call == 43 {
         return true;
     }
     call == 40

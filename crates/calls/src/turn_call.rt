@@ -1,9 +1,11 @@
-// Call 43: as the run call 40 with room for just one line, but made by one turn. Other buffers are left to the run call.
+// Call 43 with room for just one line: as the run call, but made by one turn. With other buffers it is left to the run call.
 use calls_served::reply::Reply;
 use machine::End;
 use model::Counts;
+use model::verdict::Verdict;
 use run::run;
 use run_answer::end_code;
+use run_judge::judge_run;
 use run_laws::Ran;
 use run_laws::Turn;
 use run_turn::turn::turn;
@@ -12,6 +14,7 @@ use sheet::header::Header;
 use sheet_check::check::check;
 use trace::LINE_BYTES;
 ghost use mathlib.Core.Path.{_≡_};
+ghost use mathlib.Core.Bool.{true};
 ghost use Prim.Native.Nat.{_≤_};
 ghost use lib.ListN.{length};
 ghost use Rattle.sheet.specs.declared.header.Checked.the-variants.{Accepted};
@@ -20,8 +23,16 @@ ghost use Rattle.machine.specs.Run.{lineSize, traceLimit};
 ghost use Rattle.run_laws.specs.Run.{lent};
 ghost use Rattle.run_laws.specs.Standing.{Standing};
 
-pub(crate) fn has(call: u32) -> bool {
-    call == 43
+pub(crate) fn has(call: u32, len: usize) -> bool
+    ensures { λ r. ⌜ (r ≡ true → lineSize ≤ len) ⌝ }
+{
+    if call != 43 {
+        return false;
+    }
+    if len < LINE_BYTES {
+        return false;
+    }
+    len < 2 * LINE_BYTES
 }
 
 // One turn, as a run call's answer.
@@ -68,7 +79,7 @@ fn turned(
     }
 }
 
-// A run call with no room judges the tables, and tells whether main is at its end.
+// Refusals 1 and 2, then one turn.
 fn by_turn(
     header: Header,
     sheet: &[u8],
@@ -82,24 +93,25 @@ fn by_turn(
 ) -> Ran
     requires { ⌜ checked (now sheet) ≡ Accepted header ⌝ }
     requires { ⌜ lineSize ≤ length (now trace) ⌝ }
-    requires { ⌜ length (now trace) ≤ traceLimit ⌝ }
 {
-    let before = run(
-        sheet,
+    let c = header.counts;
+    let v = judge_run(
+        c,
+        header.records,
         links,
         axis,
         times,
         marks,
         positions,
         accums,
-        &mut trace[..0],
+        trace.len(),
     );
-    let c = header.counts;
-    let end = before.end;
-    match end {
-        End::Finished => before,
-        End::Refused(_) => before,
-        End::Full => turned(
+    match v {
+        Verdict::Refused(q) => Ran {
+            lines: 0,
+            end: End::Refused(q),
+        },
+        Verdict::Fine => turned(
             c,
             sheet,
             links,
@@ -113,7 +125,7 @@ fn by_turn(
     }
 }
 
-// After a turn that was made, the same call tells how the run stands.
+// After a turn that was made, a run call with no room tells how the run stands.
 fn told(
     ran: Ran,
     sheet: &[u8],
@@ -151,43 +163,26 @@ fn made(
     positions: &mut [u32],
     accums: &mut [i64],
     trace: &mut [u8],
-) -> Ran {
-    if trace.len() < LINE_BYTES {
-        return run(sheet, links, axis, times, marks, positions, accums, trace);
-    }
-    if 2 * LINE_BYTES <= trace.len() {
-        return run(sheet, links, axis, times, marks, positions, accums, trace);
-    }
+) -> Ran
+    requires { ⌜ lineSize ≤ length (now trace) ⌝ }
+{
     let k = check(sheet);
     match k {
         Checked::Refused(q) => Ran {
             lines: 0,
             end: End::Refused(q),
         },
-        Checked::Accepted(header) => {
-            let ran = by_turn(
-                header,
-                sheet,
-                links,
-                axis,
-                times,
-                marks,
-                positions,
-                accums,
-                trace,
-            );
-            told(
-                ran,
-                sheet,
-                links,
-                axis,
-                times,
-                marks,
-                positions,
-                accums,
-                trace,
-            )
-        }
+        Checked::Accepted(header) => by_turn(
+            header,
+            sheet,
+            links,
+            axis,
+            times,
+            marks,
+            positions,
+            accums,
+            trace,
+        ),
     }
 }
 
@@ -200,12 +195,25 @@ pub(crate) fn answer(
     positions: &mut [u32],
     sheet: &[u8],
     trace: &mut [u8],
-) -> Reply {
+) -> Reply
+    requires { ⌜ lineSize ≤ length (now trace) ⌝ }
+{
     let ran = made(sheet, links, axis, times, marks, positions, accums, trace);
-    let end = ran.end;
+    let after = told(
+        ran,
+        sheet,
+        links,
+        axis,
+        times,
+        marks,
+        positions,
+        accums,
+        trace,
+    );
+    let end = after.end;
     Reply {
         code: end_code(end),
-        lines: ran.lines,
+        lines: after.lines,
         answer: 0,
     }
 }

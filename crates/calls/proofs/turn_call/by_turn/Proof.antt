@@ -1,29 +1,33 @@
-use Rattle.calls.proofs.Turns.{still-stands}
+use mathlib.Core.Path.{sym, _∙_}
+use Rattle.run_laws.specs.Judging.{fine-standing}
+use Rattle.run_laws.specs.Run.{lent}
 use borrow.Author.Needs.{needs}
-use native.Mathlib.Omega.{arith}
 use Rattle.calls.proofs.turn_call.by_turn.Statement.{statement}
 use Rattle.calls.proofs.turn_call.by_turn.Tie as tie
 
-slice-relend-prefix-run : tie.Need-slice-relend-prefix-run
-slice-relend-prefix-run c = search needs
+judge-run-requires : tie.Need-judge-run-requires
+judge-run-requires c κs = search needs
 
-slice-aggregate-run : tie.Need-slice-aggregate-run
-slice-aggregate-run c = search needs
-
-run-requires : tie.Need-run-requires
-run-requires c κs = search needs
+enum-known-v : tie.Need-enum-known-v
+enum-known-v c = search needs
 
 enum-told : tie.Need-enum-told
 enum-told c = search needs
 
-enum-told-2 : tie.Need-enum-told-2
-enum-told-2 c = search needs
+-- The places that the answers look back to: `search` finds each by its type.
+abbrev start : tie.Start → tie.Start
+start x = x
 
-enum-told-3 : tie.Need-enum-told-3
-enum-told-3 c = search needs
+abbrev after-judge-run : tie.After-judge-run → tie.After-judge-run
+after-judge-run x = x
+
+abbrev after-enum-told : tie.After-enum-told → tie.After-enum-told
+after-enum-told x = x
 
 turned-requires : tie.Need-turned-requires
-turned-requires c κs = (still-stands _ _ (c .before .before .before .before .before .before .before .before .before .before .before .before .before .before .before .before .before .before .before .before .before .before .before .before .before .before .before .before .before .before .before .before .before .before .before .before .before .before .pre .0) _ _ _ (c .before .before .before .before .before .before .before .before .before .before .before .before .before .before .before .before .before .before .before .before .before .before .before .run .ensures) (c .before .before .before .before .before .before .before .enum-told3 .given .1), (omega (arith, c .before .before .before .before .before .before .before .before .before .before .before .before .before .before .before .before .before .before .before .before .before .before .before .before .before .before .before .before .before .before .before .before .before .before .before .before .before .before .pre .1 .0), omega (arith, c .before .before .before .before .before .before .before .before .before .before .before .before .before .before .before .before .before .before .before .before .before .before .before .before .before .before .before .before .before .before .before .before .before .before .before .before .before .before .pre .1 .1)))
+turned-requires c κs =
+    let fine = fine-standing (start (search) .args .sheet .now) (start (search) .args .header) (lent (start (search) .args .links .now) (start (search) .args .axis .now) (start (search) .args .times .now) (start (search) .args .marks .now) (start (search) .args .positions .now) (start (search) .args .accums .now)) _ (start (search) .pre .0) (sym (after-judge-run (search) .judge-run .ensures) ∙ after-enum-told (search) .enum-told .given .1) in
+    (fine .0, (start (search) .pre .1, fine .1))
 
 same-length : tie.Need-same-length
 same-length c = search needs
@@ -43,11 +47,11 @@ same-length-5 c = search needs
 same-length-6 : tie.Need-same-length-6
 same-length-6 c = search needs
 
-same-length-7 : tie.Need-same-length-7
-same-length-7 c = search needs
-
 returns : tie.Need-returns
 returns c = search needs
+
+same-length-7 : tie.Need-same-length-7
+same-length-7 c = search needs
 
 same-length-8 : tie.Need-same-length-8
 same-length-8 c = search needs
@@ -67,46 +71,16 @@ same-length-12 c = search needs
 same-length-13 : tie.Need-same-length-13
 same-length-13 c = search needs
 
-same-length-14 : tie.Need-same-length-14
-same-length-14 c = search needs
-
 returns-2 : tie.Need-returns-2
 returns-2 c = search needs
-
-same-length-15 : tie.Need-same-length-15
-same-length-15 c = search needs
-
-same-length-16 : tie.Need-same-length-16
-same-length-16 c = search needs
-
-same-length-17 : tie.Need-same-length-17
-same-length-17 c = search needs
-
-same-length-18 : tie.Need-same-length-18
-same-length-18 c = search needs
-
-same-length-19 : tie.Need-same-length-19
-same-length-19 c = search needs
-
-same-length-20 : tie.Need-same-length-20
-same-length-20 c = search needs
-
-same-length-21 : tie.Need-same-length-21
-same-length-21 c = search needs
-
-returns-3 : tie.Need-returns-3
-returns-3 c = search needs
 
 pub by-turn-spec : {M : Type 1} → statement M
 by-turn-spec =
     tie.close
     (tie.spec
-    slice-relend-prefix-run
-    slice-aggregate-run
-    run-requires
+    judge-run-requires
+    enum-known-v
     enum-told
-    enum-told-2
-    enum-told-3
     turned-requires
     same-length
     same-length-2
@@ -114,21 +88,12 @@ by-turn-spec =
     same-length-4
     same-length-5
     same-length-6
-    same-length-7
     returns
+    same-length-7
     same-length-8
     same-length-9
     same-length-10
     same-length-11
     same-length-12
     same-length-13
-    same-length-14
-    returns-2
-    same-length-15
-    same-length-16
-    same-length-17
-    same-length-18
-    same-length-19
-    same-length-20
-    same-length-21
-    returns-3)
+    returns-2)
