@@ -16,6 +16,7 @@ use ring::wide;
 ghost use mathlib.Core.Path.{_≡_};
 ghost use Prim.Native.Nat.{_≤_};
 ghost use Rattle.model.specs.Counts.{limit};
+ghost use Rattle.model_laws.specs.Tables.{modelOf};
 ghost use Rattle.accum_laws.specs.Calls.{accumOne, accumAlone, accumListed};
 
 // Accum at a time: the new accumulator, or refusal 7 and the old one.
@@ -45,7 +46,7 @@ pub fn accum_alone(
     x: Accumulator,
     d: i64,
 ) -> Kept
-    ensures { λ r. ⌜ r ≡ accumAlone c (record { links = now (links .entry); axis = now (axis .entry); times = now (times .entry); marks = now (marks .entry) }) x d ⌝ }
+    ensures { λ r. ⌜ r ≡ accumAlone c (modelOf (now (links .entry)) (now (axis .entry)) (now (times .entry)) (now (marks .entry))) x d ⌝ }
 {
     let v = judge_tables(c, links, axis, times, marks);
     match v {
@@ -73,7 +74,8 @@ pub fn accum_listed(
     d: i64,
 ) -> Answer
     ensures { λ r. ⌜ record { words = now (words .exit); answer = r }
-        ≡ accumListed c (record { links = now (links .entry); axis = now (axis .entry); times = now (times .entry); marks = now (marks .entry) }) count k d (now (words .entry)) ⌝ }
+        ≡ accumListed c (modelOf (now (links .entry)) (now (axis .entry)) (now (times .entry)) (now (marks .entry))) count k d
+        (now (words .entry)) ⌝ }
 {
     let list = list_fine(count, words.len());
     let number = number_fine(wide(count), k);

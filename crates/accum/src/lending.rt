@@ -14,6 +14,7 @@ ghost use mathlib.Core.Path.{_≡_};
 ghost use Prim.Native.Nat.{_≤_};
 ghost use lib.ListN.{take};
 ghost use Rattle.accum_laws.specs.Calls.{accumAlone, accumAt, accumListed};
+ghost use Rattle.model_laws.specs.Tables.{modelOf};
 
 // Accum on one accumulator by d, lent to the call.
 pub fn accum_alone_lent(
@@ -25,7 +26,7 @@ pub fn accum_alone_lent(
     x: Accumulator,
     d: i64,
 ) -> Kept
-    ensures { λ r. ⌜ r ≡ accumAlone c (record { links = now (links .entry); axis = now (axis .entry); times = now (times .entry); marks = now (marks .entry) }) x d ⌝ }
+    ensures { λ r. ⌜ r ≡ accumAlone c (modelOf (now (links .entry)) (now (axis .entry)) (now (times .entry)) (now (marks .entry))) x d ⌝ }
 {
     let mut value = x;
     let answer = accum_one(c, links, axis, times, marks, &mut value, d);
@@ -52,7 +53,7 @@ fn accum_at_first(
 ) -> Relisted
     requires { ⌜ n ≤ 64 ⌝ }
     ensures { λ r. ⌜ record { list = take n (r .list); answer = r .answer }
-        ≡ accumAt c (record { links = now (links .entry); axis = now (axis .entry); times = now (times .entry); marks = now (marks .entry) }) k d (take n list) ⌝ }
+        ≡ accumAt c (modelOf (now (links .entry)) (now (axis .entry)) (now (times .entry)) (now (marks .entry))) k d (take n list) ⌝ }
 {
     let mut after = list;
     let answer = accum_at(c, links, axis, times, marks, &mut after[..n], k, d);
@@ -76,7 +77,8 @@ pub fn accum_listed_lent(
     d: i64,
 ) -> Answer
     ensures { λ r. ⌜ record { words = now (words .exit); answer = r }
-        ≡ accumListed c (record { links = now (links .entry); axis = now (axis .entry); times = now (times .entry); marks = now (marks .entry) }) count k d (now (words .entry)) ⌝ }
+        ≡ accumListed c (modelOf (now (links .entry)) (now (axis .entry)) (now (times .entry)) (now (marks .entry))) count k d
+        (now (words .entry)) ⌝ }
 {
     let ok = list_fine(count, words.len());
     if !ok {

@@ -7,6 +7,7 @@ use model::Counts;
 use model::answer::Answer;
 ghost use mathlib.Core.Path.{_≡_};
 ghost use Rattle.accum_laws.specs.Calls.{accumAlone, accumAt};
+ghost use Rattle.model_laws.specs.Tables.{modelOf};
 
 // Accum by d on an accumulator that is lent to the call.
 pub fn accum_one(
@@ -19,7 +20,7 @@ pub fn accum_one(
     d: i64,
 ) -> Answer
     ensures { λ r. ⌜ record { value = now (x .exit); answer = r }
-        ≡ accumAlone c (record { links = now (links .entry); axis = now (axis .entry); times = now (times .entry); marks = now (marks .entry) }) (now (x .entry)) d ⌝ }
+        ≡ accumAlone c (modelOf (now (links .entry)) (now (axis .entry)) (now (times .entry)) (now (marks .entry))) (now (x .entry)) d ⌝ }
 {
     let r = accum_alone(c, links, axis, times, marks, *x, d);
     *x = r.value;
@@ -38,7 +39,7 @@ pub fn accum_at(
     d: i64,
 ) -> Answer
     ensures { λ r. ⌜ record { list = now (xs .exit); answer = r }
-        ≡ accumAt c (record { links = now (links .entry); axis = now (axis .entry); times = now (times .entry); marks = now (marks .entry) }) k d (now (xs .entry)) ⌝ }
+        ≡ accumAt c (modelOf (now (links .entry)) (now (axis .entry)) (now (times .entry)) (now (marks .entry))) k d (now (xs .entry)) ⌝ }
 {
     let p = pick(c, links, axis, times, marks, xs.len(), k);
     if p.refused {

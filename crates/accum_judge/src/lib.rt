@@ -11,11 +11,12 @@ use simulation_axis::time_at;
 ghost use mathlib.Core.Path.{_≡_};
 ghost use Rattle.model_laws.specs.Ready.{Ready};
 ghost use Rattle.model_laws.specs.Now.{half, timeOf};
+ghost use Rattle.model_laws.specs.Tables.{modelOf};
 ghost use Rattle.accum_laws.specs.Calls.{countFine, listFine, numberFine, listJudged, pickOf};
 
 // The time of a judged model: that of the first notice.
 pub fn time_of(c: Counts, links: &[u32], axis: &[u32], times: &[u64], marks: &[u8]) -> u64
-    requires { ⌜ Ready c (record { links = now links; axis = now axis; times = now times; marks = now marks }) ⌝ }
+    requires { ⌜ Ready c (modelOf (now links) (now axis) (now times) (now marks)) ⌝ }
     ensures { λ r. ⌜ r ≡ timeOf (half c) (now (axis .entry)) (now (times .entry)) ⌝ }
 {
     let m = wide(c.processes) + 2;
@@ -65,7 +66,8 @@ pub fn judge_list(
     list: bool,
     number: bool,
 ) -> Verdict
-    ensures { λ r. ⌜ r ≡ listJudged list number c (record { links = now (links .entry); axis = now (axis .entry); times = now (times .entry); marks = now (marks .entry) }) ⌝ }
+    ensures { λ r. ⌜ r ≡ listJudged list number c (modelOf (now (links .entry)) (now (axis .entry)) (now (times .entry))
+        (now (marks .entry))) ⌝ }
 {
     if !list {
         return Verdict::Refused(Refusal::Size);
@@ -92,7 +94,7 @@ pub fn pick(
     count: usize,
     k: u32,
 ) -> Picked
-    ensures { λ r. ⌜ r ≡ pickOf c (record { links = now (links .entry); axis = now (axis .entry); times = now (times .entry); marks = now (marks .entry) }) count k ⌝ }
+    ensures { λ r. ⌜ r ≡ pickOf c (modelOf (now (links .entry)) (now (axis .entry)) (now (times .entry)) (now (marks .entry))) count k ⌝ }
 {
     let list = count_fine(count);
     let number = number_fine(count, k);

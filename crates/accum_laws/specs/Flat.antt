@@ -42,7 +42,8 @@ updatedIn k t d l = stored (updatedOf (wordsAt (wordPlace k) l) t d) (wordPlace 
 
 -- ---- what the code does, by the answer of the update
 
-module _ (k t : ℕ) (d : ℤ) (l : List ℤ) (i : ℕ) (at : i ≡ wordPlace k) (x : Accumulator) (is : x ≡ wordsAt i l) (u : Updated) (e : u ≡ updatedOf x t d) where
+module _ (k t : ℕ) (d : ℤ) (l : List ℤ) (i : ℕ) (at : i ≡ wordPlace k) (x : Accumulator) (is : x ≡ wordsAt i l) (u : Updated)
+    (e : u ≡ updatedOf x t d) where
   same : updatedOf (wordsAt (wordPlace k) l) t d ≡ u
   same = sym (e ∙ ap (λ (y : Accumulator). updatedOf y t d) (is ∙ ap (λ (j : ℕ). wordsAt j l) at))
 
@@ -72,7 +73,8 @@ with-other i j v l o =
     apart n (inr h) e f g = omega arith
 
 -- whatever an update does, the words of other accumulators stay as they are
-pub in-other : (k t : ℕ) (d : ℤ) (l : List ℤ) (j : ℕ) → (j < wordPlace k ⊎ wordPlace k + 2 < j) → getD (updatedIn k t d l .words) j (pos 0) ≡ getD l j (pos 0)
+pub in-other : (k t : ℕ) (d : ℤ) (l : List ℤ) (j : ℕ) → (j < wordPlace k ⊎ wordPlace k + 2 < j)
+    → getD (updatedIn k t d l .words) j (pos 0) ≡ getD l j (pos 0)
 unfolding updatedIn
 in-other k t d l j o = go (updatedOf (wordsAt (wordPlace k) l) t d)
   where

@@ -16,7 +16,8 @@ use Rattle.model.specs.declared.Refusal.the-variants.{Accumulator as NotAsRequi
 use Rattle.accum_laws.specs.declared.Accumulator.{Accumulator}
 use Rattle.accum_laws.specs.declared.Updated.the-variants.{To, Refused}
 use Rattle.accum_laws.specs.Signed.{abs-add, abs-mul, by-test, fits-abs, kept}
-use Rattle.accum_laws.specs.Update.{mayUpdate, grownOf, updatedOf, Required, Growable, May, may-says, says-may, updated-to, updated-not}
+use Rattle.accum_laws.specs.Update.{mayUpdate, grownOf, updatedOf, Required, Growable, May, may-says, says-may, updated-to}
+use Rattle.accum_laws.specs.Update.{updated-not}
 
 -- with 0 ≤ b ≤ t, |t − b| is at most t − |b|
 since-abs : (b : ℤ) (t : ℕ) → leZ (pos 0) b ≡ true → natAbs b ≤ t → natAbs (pos t -ℤ b) ≤ t - natAbs b
@@ -78,7 +79,8 @@ zeros-required t = record { since = refl; past = omega arith; sum-in = omega ari
 pub refused-rate : (x : Accumulator) (t : ℕ) (d : ℤ) → Required x t → updatedOf x t d ≡ Refused NotAsRequired → 1000000 < natAbs (x .c +ℤ d)
 refused-rate x t d r e =
     below 1000000 (natAbs (x .c +ℤ d)) (λ l. l)
-    (λ l. let z : To (grownOf x t d) ≡ Refused NotAsRequired = sym (updated-to x t d (says-may x t d (record { required = r; rate-next = l }))) ∙ e in
+    (λ l. let z : To (grownOf x t d) ≡ Refused NotAsRequired = sym (updated-to x t d
+    (says-may x t d (record { required = r; rate-next = l }))) ∙ e in
     let y : false ≡ true = cc in clash y)
 
 -- an update that was accepted: the accumulator, as required from then on

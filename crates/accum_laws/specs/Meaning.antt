@@ -25,7 +25,8 @@ use Rattle.accum_laws.specs.declared.Updated.the-variants.{To, Refused}
 use Rattle.accum_laws.specs.Update.{updatedOf}
 use Rattle.accum_laws.specs.Flat.{wordsAt, wordPlace, stored, updatedIn}
 use Rattle.accum_laws.specs.Triples.{Listed, numbered, listAfter, updatedAt}
-use Rattle.accum_laws.specs.Calls.{keptOf, accumOne, keeping, accumAlone, countFine, listFine, numberFine, listJudged, changing, accumListed, listing, accumAt}
+use Rattle.accum_laws.specs.Calls.{keptOf, accumOne, keeping, accumAlone, countFine, listFine, numberFine, listJudged, changing}
+use Rattle.accum_laws.specs.Calls.{accumListed, listing, accumAt}
 
 -- ---- well-formed models
 

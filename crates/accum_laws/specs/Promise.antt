@@ -26,7 +26,8 @@ use Rattle.accum_laws.specs.declared.Updated.{Updated}
 use Rattle.accum_laws.specs.declared.Updated.the-variants.{To, Refused}
 use Rattle.accum_laws.specs.Update.{updatedOf}
 use Rattle.accum_laws.specs.Flat.{Changed, updatedIn}
-use Rattle.accum_laws.specs.Calls.{keptOf, accumOne, keeping, accumAlone, countFine, listFine, numberFine, numberJudged, listJudged, changing, accumListed}
+use Rattle.accum_laws.specs.Calls.{keptOf, accumOne, keeping, accumAlone, countFine, listFine, numberFine, numberJudged, listJudged}
+use Rattle.accum_laws.specs.Calls.{changing, accumListed}
 
 -- ---- one accumulator
 
@@ -62,7 +63,8 @@ module _ (c : Counts) (t : Tables) (x : Accumulator) (d : ℤ) (v : Verdict) (e 
   pub alone-fine : (n : ℕ) (k : Kept) → v ≡ Fine → n ≡ timeOf (half c) (t .axis) (t .times) → k ≡ accumOne x n d → k ≡ accumAlone c t x d
   unfolding accumAlone
   alone-fine n k q m p =
-      p ∙ ap (λ (j : ℕ). accumOne x j d) m ∙ sym (ap (λ (w : Verdict). keeping w x (accumOne x (timeOf (half c) (t .axis) (t .times)) d)) (sym e ∙ q))
+      p ∙ ap (λ (j : ℕ). accumOne x j d) m ∙ sym (ap (λ (w : Verdict). keeping w x (accumOne x (timeOf (half c) (t .axis) (t .times)) d))
+      (sym e ∙ q))
 
 -- ---- the list, the tables, the number
 
@@ -85,7 +87,7 @@ module _ (list number : Bool) (c : Counts) (t : Tables) where
       unfolding listJudged
       list-fine m = rw (not-false list n, sym e ∙ q, not-false number m)
 
-pub record Passed (list number : Bool) (c : Counts) (t : Tables) : Type 0 where
+pub record ListPassed (list number : Bool) (c : Counts) (t : Tables) : Type 0 where
   pub list-is : list ≡ true
   pub tables-are : judged c t ≡ Fine
   pub number-is : number ≡ true
@@ -96,7 +98,7 @@ number-passed Fine false e = let z : false ≡ true = cc in clash z
 number-passed (Judged r) b e = let z : false ≡ true = cc in clash z
 
 -- fine only where all three are
-pub list-passed : (list number : Bool) (c : Counts) (t : Tables) → listJudged list number c t ≡ Fine → Passed list number c t
+pub list-passed : (list number : Bool) (c : Counts) (t : Tables) → listJudged list number c t ≡ Fine → ListPassed list number c t
 unfolding listJudged
 list-passed list number c t e =
     test list
@@ -119,7 +121,7 @@ module _ (c : Counts) (t : Tables) (n k : ℕ) (l : List ℤ) (list number : Boo
   verdict = rw (sym a, sym b) e
 
   -- what the update asks for
-  pub listed-passed : v ≡ Fine → Passed (listFine n (length l)) (numberFine n k) c t
+  pub listed-passed : v ≡ Fine → ListPassed (listFine n (length l)) (numberFine n k) c t
   listed-passed q = list-passed _ _ c t (sym verdict ∙ q)
 
   pub listed-in : (m : ℕ) → v ≡ Fine → m ≡ timeOf (half c) (t .axis) (t .times) → (1 ≤ k) × (3 * k ≤ length l) × (m ≤ limit)
@@ -132,7 +134,9 @@ module _ (c : Counts) (t : Tables) (n k : ℕ) (l : List ℤ) (list number : Boo
   unfolding accumListed
   listed-turned d r q = sym (ap (λ (w : Verdict). changing w l (updatedIn k (timeOf (half c) (t .axis) (t .times)) d l)) (sym verdict ∙ q))
 
-  pub listed-fine : (d : ℤ) (m : ℕ) (s : Changed) → v ≡ Fine → m ≡ timeOf (half c) (t .axis) (t .times) → s ≡ updatedIn k m d l → s ≡ accumListed c t n k d l
+  pub listed-fine : (d : ℤ) (m : ℕ) (s : Changed) → v ≡ Fine → m ≡ timeOf (half c) (t .axis) (t .times) → s ≡ updatedIn k m d l
+      → s ≡ accumListed c t n k d l
   unfolding accumListed
   listed-fine d m s q h p =
-      p ∙ ap (λ (j : ℕ). updatedIn k j d l) h ∙ sym (ap (λ (w : Verdict). changing w l (updatedIn k (timeOf (half c) (t .axis) (t .times)) d l)) (sym verdict ∙ q))
+      p ∙ ap (λ (j : ℕ). updatedIn k j d l) h ∙ sym (ap (λ (w : Verdict). changing w l
+      (updatedIn k (timeOf (half c) (t .axis) (t .times)) d l)) (sym verdict ∙ q))

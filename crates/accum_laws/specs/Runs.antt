@@ -41,10 +41,12 @@ pub listed-flat : (c : Counts) (t : Tables) (k : ℕ) (d : ℤ) (l : List Accumu
     → accumListed c t (length l) k d (flat l) ≡ flattened (accumAt c t k d l)
 unfolding accumListed accumAt
 listed-flat c t k d l =
-    ap (λ (b : Bool). changing (listJudged b (numberFine (length l) k) c t) (flat l) (updatedIn k (timeOf (half c) (t .axis) (t .times)) d (flat l))) (flat-fine l)
+    ap (λ (b : Bool). changing (listJudged b (numberFine (length l) k) c t) (flat l)
+    (updatedIn k (timeOf (half c) (t .axis) (t .times)) d (flat l))) (flat-fine l)
     ∙ go (listJudged (countFine (length l)) (numberFine (length l) k) c t)
   where
-    go : (v : Verdict) → changing v (flat l) (updatedIn k (timeOf (half c) (t .axis) (t .times)) d (flat l)) ≡ flattened (listing v l (updatedAt k (timeOf (half c) (t .axis) (t .times)) d l))
+    go : (v : Verdict) → changing v (flat l) (updatedIn k (timeOf (half c) (t .axis) (t .times)) d (flat l))
+        ≡ flattened (listing v l (updatedAt k (timeOf (half c) (t .axis) (t .times)) d l))
     go Fine = flat-updated k (timeOf (half c) (t .axis) (t .times)) d l
     go (Judged r) = refl
 
@@ -89,7 +91,8 @@ pub each-refused : (k t : ℕ) (d : ℤ) (l : List Accumulator) → Each l t →
 unfolding updatedAt
 each-refused k t d l a = go (updatedOf (numbered k l) t d) refl
   where
-    go : (w : Updated) → updatedOf (numbered k l) t d ≡ w → listAfter w k l .answer ≡ Turned NotAsRequired → 1000000 < natAbs (numbered k l .c +ℤ d)
+    go : (w : Updated) → updatedOf (numbered k l) t d ≡ w → listAfter w k l .answer ≡ Turned NotAsRequired
+        → 1000000 < natAbs (numbered k l .c +ℤ d)
     go (To v) e q = let z : false ≡ true = cc in clash z
     go (Refused r) e q =
         let z : r ≡ NotAsRequired = cc in

@@ -109,8 +109,10 @@ module _ (x : ℤ) (f : SFits w64 x) where
   read-less-one : ltZ (toZ w64 (ofZ w64 x)) (pos 0) ≡ true → toZ w64 (ofZ w64 less-one) ≡ pos (mag x)
   read-less-one h = kept (less-one-fits h) ∙ less-one-is h
 
-  pub less-one-cast : ltZ (toZ w64 (ofZ w64 x)) (pos 0) ≡ true → T (nonNeg (toZ w64 (ofZ w64 less-one))) × Fits w64 (natAbs (toZ w64 (ofZ w64 less-one)))
-  less-one-cast h = subst (λ (z : ℤ). T (nonNeg z) × Fits w64 (natAbs z)) (sym (read-less-one h)) (tt, record { fits = omega (arith, f .sfits) })
+  pub less-one-cast : ltZ (toZ w64 (ofZ w64 x)) (pos 0) ≡ true
+      → T (nonNeg (toZ w64 (ofZ w64 less-one))) × Fits w64 (natAbs (toZ w64 (ofZ w64 less-one)))
+  less-one-cast h = subst (λ (z : ℤ). T (nonNeg z) × Fits w64 (natAbs z)) (sym (read-less-one h))
+      (tt, record { fits = omega (arith, f .sfits) })
 
   pub less-one-add : ltZ (toZ w64 (ofZ w64 x)) (pos 0) ≡ true → Fits w64 (natAbs (toZ w64 (ofZ w64 less-one)) + 1)
   less-one-add h = subst (λ (z : ℤ). Fits w64 (natAbs z + 1)) (sym (read-less-one h)) (record { fits = omega (arith, f .sfits) })

@@ -1,5 +1,5 @@
-// The calls by their numbers (docs/CALLS.md): those of SIMSET and SIMULATION are decoded to values, and each other group has a file with `has`,
-// which numbers it takes, and `answer`.
+// The calls by their numbers (docs/CALLS.md): those of SIMSET and SIMULATION are decoded to values, and each other group has a file with
+// `has`, which numbers it takes, and `answer`.
 use crate::accum_calls;
 use crate::decode;
 use crate::fresh_call;

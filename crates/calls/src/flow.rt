@@ -4,7 +4,7 @@ use libc::STDOUT_FILENO;
 ghost use Prim.Native.Nat.{_≤_};
 ghost use mathlib.Core.Path.{_≡_};
 ghost use lib.ListN.{length};
-ghost use Rattle.calls.specs.Flow.{Within};
+ghost use Rattle.calls.specs.Flow.{FlowFits};
 
 pub struct Flow {
     pub at: usize,
@@ -89,8 +89,8 @@ pub(crate) fn write_out(flow: Flow, output: &[u8]) {
 
 // Sees to it that n unused bytes stand in the input, if it has them. Before it waits for input it writes what waits.
 pub(crate) fn await_bytes(flow: Flow, input: &mut [u8], output: &[u8], n: usize) -> Flow
-    requires { ⌜ Within flow (length (now input)) (length (now output)) ⌝ }
-    ensures { λ r. ⌜ Within r (length (now (input .entry))) (length (now (output .entry))) ⌝ }
+    requires { ⌜ FlowFits flow (length (now input)) (length (now output)) ⌝ }
+    ensures { λ r. ⌜ FlowFits r (length (now (input .entry))) (length (now (output .entry))) ⌝ }
 {
     if n <= flow.end - flow.at {
         return flow;

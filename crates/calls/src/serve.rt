@@ -17,7 +17,7 @@ ghost use mathlib.Core.Path.{_≡_};
 ghost use mathlib.Core.Bool.{true};
 ghost use lib.ListN.{length};
 ghost use Rattle.calls_served.specs.Contents.{Served};
-ghost use Rattle.calls.specs.Flow.{Within};
+ghost use Rattle.calls.specs.Flow.{FlowFits};
 
 // Is the call known, and do its tables fit into the buffers?
 fn servable(head: Head) -> bool
@@ -38,9 +38,9 @@ fn servable(head: Head) -> bool
 
 // A request of a known call whose tables fit: waits for the rest of it and for room for a response, which is no longer.
 fn take_request(head: Head, flow: Flow, input: &mut [u8], output: &mut [u8]) -> Flow
-    requires { ⌜ Within flow (length (now input)) (length (now output)) ⌝ }
+    requires { ⌜ FlowFits flow (length (now input)) (length (now output)) ⌝ }
     requires { ⌜ Served (head .sizes) ⌝ }
-    ensures { λ r. ⌜ Within r (length (now (input .entry))) (length (now (output .entry))) ⌝ }
+    ensures { λ r. ⌜ FlowFits r (length (now (input .entry))) (length (now (output .entry))) ⌝ }
 {
     let n = head.sizes;
     let all = HEAD_BYTES + contents_bytes(n);
@@ -66,8 +66,8 @@ fn take_request(head: Head, flow: Flow, input: &mut [u8], output: &mut [u8]) -> 
 
 // The next request: one that is cut short, of an unknown call, or past the buffers stops the flow.
 fn step(flow: Flow, input: &mut [u8], output: &mut [u8]) -> Flow
-    requires { ⌜ Within flow (length (now input)) (length (now output)) ⌝ }
-    ensures { λ r. ⌜ Within r (length (now (input .entry))) (length (now (output .entry))) ⌝ }
+    requires { ⌜ FlowFits flow (length (now input)) (length (now output)) ⌝ }
+    ensures { λ r. ⌜ FlowFits r (length (now (input .entry))) (length (now (output .entry))) ⌝ }
 {
     let next = await_bytes(flow, input, output, HEAD_BYTES);
     let at = next.at;

@@ -37,7 +37,8 @@ headAt s i =
     }
 
 -- field by field
-pub head-is : (s : List ℕ) (i n k x y : ℕ) (c : Counts) (t : ℤ) (z : Sizes) → c ≡ countsAt s (i + 4) → t ≡ i64At s (i + 32) → z ≡ sizesAt s (i + 40)
+pub head-is : (s : List ℕ) (i n k x y : ℕ) (c : Counts) (t : ℤ) (z : Sizes) → c ≡ countsAt s (i + 4) → t ≡ i64At s (i + 32)
+    → z ≡ sizesAt s (i + 40)
     → n ≡ u32At s i → k ≡ u32At s (i + 16) → x ≡ u32At s (i + 20) → y ≡ u32At s (i + 24)
     → record { call = n; counts = c; clause = k; x = x; y = y; t = t; sizes = z } ≡ headAt s i
 head-is s i n k x y c t z ec et ez en ek ex ey =

@@ -34,7 +34,10 @@ pub record Hosted : Type 0 where
 
 -- what the machine's call says: its lines' bytes and then the trace as it was lent; lines × 256 + code
 abbrev pub told : machine.Ran → List ℕ → Hosted
-told r tr = record { trace = linesBytes (r .lines) ++ drop (lineSize * length (r .lines)) tr; number = length (r .lines) * 256 + endCode (r .end) }
+told r tr = record {
+  trace = linesBytes (r .lines) ++ drop (lineSize * length (r .lines)) tr;
+  number = length (r .lines) * 256 + endCode (r .end);
+}
 
 -- a sheet that is not accepted is refused with 8; else it is one call of the machine, from fresh
 unfoldable pub hosted : List ℕ → List ℕ → Hosted
@@ -76,7 +79,8 @@ module _ (bytes tr : List ℕ) (k : Checked) (ek : k ≡ checked bytes) where
         ∙ ap (λ v. judgedRun v (countsOf bytes) bytes (freshRun (countsOf bytes) bytes) tr)
         (judged-short bytes (yes .0) (fresh (sheetOf bytes)) (freshRun (countsOf bytes) bytes) (fresh-stands bytes (yes .0)) (length tr) l))
 
-    pub host-run : length tr ≤ traceLimit → (t : List ℕ) (r : Ran) (n : ℕ) → record { trace = t; result = r } ≡ startedHere (h .counts) bytes tr → n ≡ ranNumber r
+    pub host-run : length tr ≤ traceLimit → (t : List ℕ) (r : Ran) (n : ℕ)
+        → record { trace = t; result = r } ≡ startedHere (h .counts) bytes tr → n ≡ ranNumber r
         → record { trace = t; number = n } ≡ hosted bytes tr
     unfolding hosted ranNumber
     host-run l t r n f g =

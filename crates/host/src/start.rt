@@ -19,8 +19,14 @@ pub(crate) fn start(
     accums: &mut [i64],
     trace: &mut [u8],
 ) -> Ran
-    requires { ⌜ Startable header (now sheet) (lent (now links) (now axis) (now times) (now marks) (now positions) (now accums)) (now trace) ⌝ }
-    ensures { λ r. ⌜ record { run = lent (now (links .exit)) (now (axis .exit)) (now (times .exit)) (now (marks .exit)) (now (positions .exit)) (now (accums .exit)); trace = now (trace .exit); result = r }
+    requires { ⌜ Startable header (now sheet) (lent (now links) (now axis) (now times) (now marks) (now positions) (now accums))
+        (now trace) ⌝ }
+    ensures { λ r. ⌜ record {
+      run = lent (now (links .exit)) (now (axis .exit)) (now (times .exit)) (now (marks .exit))
+          (now (positions .exit)) (now (accums .exit));
+      trace = now (trace .exit);
+      result = r;
+    }
         ≡ startedOn (header .counts) (now (sheet .entry)) (now (trace .entry)) ⌝ }
 {
     fill(header, sheet, links, axis, times, marks, positions, accums);

@@ -101,7 +101,8 @@ abbrev pub StandsTo : How → Type 0 → ℕ → ℕ → List ℕ → List ℕ �
 StandsTo atFirst equal a b old now = Unit {0}
 StandsTo behind equal a b old now = equal → Before a b now
 StandsTo inFront equal a b old now = equal → Before b a now
-StandsTo (rightBefore y) equal a b old now = (a ≡ y → Before b a now) × (Before a y old → Before a b now) × (Before y a old → Before b a now)
+StandsTo (rightBefore y) equal a b old now = (a ≡ y → Before b a now) × (Before a y old → Before a b now)
+    × (Before y a old → Before b a now)
 StandsTo (rightAfter y) equal a b old now = (a ≡ y → Before a b now) × (Before a y old → Before a b now) × (Before y a old → Before b a now)
 
 -- when it is placed it has Y's time and stands next to Y
@@ -141,7 +142,8 @@ isPlaced x (places p h) = eqb p x
 pub record Others (p : Placing) (old new : List Notice) : Type 0 where
   pub there : (a : ℕ) → isPlaced a p ≡ false → In a (whos new) → In a (whos old)
   pub due : (a : ℕ) → isPlaced a p ≡ false → In a (whos new) → dueOf a new ≡ dueOf a old
-  pub order : (a b : ℕ) → isPlaced a p ≡ false → isPlaced b p ≡ false → In a (whos new) → In b (whos new) → Before a b (whos old) → Before a b (whos new)
+  pub order : (a b : ℕ) → isPlaced a p ≡ false → isPlaced b p ≡ false → In a (whos new) → In b (whos new) → Before a b (whos old)
+      → Before a b (whos new)
 
 pub record Stepwise (p : Placing) (old new : List Notice) : Type 0 where
   pub placed : PlacedBy p old new
@@ -155,11 +157,13 @@ pub record Tie (s : Sheet) (n a b : ℕ) (e : Scheduled) : Type 0 where
   pub placed-so : placing s (state s (e .by - 1)) ≡ places b (e .how)
   pub there : In a (whos (noticesAt s (e .by - 1)))
   pub y-there : YThere (e .how) (whos (noticesAt s (e .by - 1)))
-  pub stands : StandsTo (e .how) (dueOf a (noticesAt s n) ≡ dueOf b (noticesAt s n)) a b (whos (noticesAt s (e .by - 1))) (whos (noticesAt s n))
+  pub stands : StandsTo (e .how) (dueOf a (noticesAt s n) ≡ dueOf b (noticesAt s n)) a b (whos (noticesAt s (e .by - 1)))
+      (whos (noticesAt s n))
 
 pub record Ties (s : Sheet) (n : ℕ) : Type 0 where
   -- no two notices were scheduled by one step, so of any two one is the later
   pub apart : (a b : ℕ) → In a (whos (noticesAt s n)) → In b (whos (noticesAt s n)) → scheduled s n a .by ≡ scheduled s n b .by → a ≡ b
-  pub tie : (a b : ℕ) → In a (whos (noticesAt s n)) → In b (whos (noticesAt s n)) → scheduled s n a .by < scheduled s n b .by → Tie s n a b (scheduled s n b)
+  pub tie : (a b : ℕ) → In a (whos (noticesAt s n)) → In b (whos (noticesAt s n)) → scheduled s n a .by < scheduled s n b .by
+      → Tie s n a b (scheduled s n b)
   -- what the next step does
   pub next : Stepwise (placing s (state s n)) (noticesAt s n) (noticesAt s (suc n))

@@ -87,8 +87,8 @@ pub data Turn : Type 0 where
   ended : End → Turn
   stepped : Line → Machine → Turn
 
--- what an accepted step does to the machine beside its call, k being the machine after it: "The stepping process moves to next, or to y when
--- 12 finds the head empty"
+-- what an accepted step does to the machine beside its call, k being the machine after it: "The stepping process moves to next, or to y
+-- when 12 finds the head empty"
 abbrev pub movedOn : Sheet → Machine → Machine → Machine
 movedOn s m k = withPosition (s .counts) k (current (m .lists)) (nextNow s m)
 

@@ -54,7 +54,8 @@ want ls n = record { lines = ls; code = n }
 
 -- the calls of a fresh run with buffers of these lengths
 unfoldable pub brings : Sheet → List ℕ → List Want → Bool
-unfolding u32At u64At i64At countsOf recordsOf startAt recordFrom sheetOf plain.hold plain.passivate plain.finish dueFor placed noEffect timed mayUpdate grownOf updatedOf fresh listsAfter perform operandOf callOf nextOf callNow nextNow step turn turns call calls
+unfolding u32At u64At i64At countsOf recordsOf startAt recordFrom sheetOf plain.hold plain.passivate plain.finish dueFor placed noEffect
+    timed mayUpdate grownOf updatedOf fresh listsAfter perform operandOf callOf nextOf callNow nextNow step turn turns call calls
 brings s lens ws = bring (calls s (fresh s) lens) ws
 
 -- ---- the worked sheet: lines 0 2 1, 0 2 2, 5 3 3 and 5 3 0, then finished
@@ -102,7 +103,8 @@ counting =
       records = does 2 13 2 0 (pos 3) ∷ does 3 6 0 0 (pos 5) ∷ does 0 13 2 0 (pos 0) ∷ [];
     }
 
-pub counting-run : getD (lastOf (fresh counting) (calls counting (fresh counting) (100 ∷ [])) .triples) 1 zero-accumulator ≡ record { a = pos 15; b = pos 5; c = pos 3 }
+pub counting-run : getD (lastOf (fresh counting) (calls counting (fresh counting) (100 ∷ [])) .triples) 1 zero-accumulator
+    ≡ record { a = pos 15; b = pos 5; c = pos 3 }
 unfolding brings
 counting-run = refl
 

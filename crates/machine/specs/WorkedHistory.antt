@@ -13,7 +13,8 @@ use Rattle.machine.specs.Machine.{fresh}
 use Rattle.machine.specs.Calls.{listsAfter, perform}
 use Rattle.machine.specs.Steps.{operandOf, callOf, nextOf, callNow, nextNow, step}
 use Rattle.machine.specs.Run.{turn, uncut}
-use Rattle.machine.specs.History.{How, atFirst, behind, inFront, rightBefore, rightAfter, howOf, clausePlacing, listPlacing, placing, Scheduled, scheduled, StandsTo, Beside}
+use Rattle.machine.specs.History.{How, atFirst, behind, inFront, rightBefore, rightAfter, howOf, clausePlacing, listPlacing, placing}
+use Rattle.machine.specs.History.{Scheduled, scheduled, StandsTo, Beside}
 
 -- the clauses 0 to 6, with Y = 7
 pub clause-ways :
@@ -29,7 +30,8 @@ at-step n h = record { by = n; how = h }
 pub worked-history :
     scheduled (sheetOf worked) 0 2 ∷ scheduled (sheetOf worked) 2 3 ∷ scheduled (sheetOf worked) 2 2 ∷ []
     ≡ at-step 0 atFirst ∷ at-step 1 behind ∷ at-step 2 behind ∷ []
-unfolding u32At u64At i64At countsOf recordsOf startAt recordFrom sheetOf plain.hold plain.passivate plain.finish dueFor placed noEffect timed fresh listsAfter perform operandOf callOf nextOf callNow nextNow step turn uncut howOf clausePlacing listPlacing placing scheduled
+unfolding u32At u64At i64At countsOf recordsOf startAt recordFrom sheetOf plain.hold plain.passivate plain.finish dueFor placed noEffect
+    timed fresh listsAfter perform operandOf callOf nextOf callNow nextNow step turn uncut howOf clausePlacing listPlacing placing scheduled
 worked-history = refl
 
 -- ---- the named situations 4 and 5, with M, A, B and C as 2, 3, 4 and 5: M0 A5 B5, then C at 5 prior: M0 C5 A5 B5

@@ -27,7 +27,8 @@ use Rattle.simulation_laws.specs.PlacedLaws.{due-beside, others-y}
 use Rattle.simulation_laws.specs.StepPromise.{clause-in}
 use Rattle.simulation_laws.specs.Replace.{timedDropFirst, drop-first}
 use Rattle.simulation_laws.specs.Ties.{is-behind}
-use Rattle.simulation_laws.specs.Forward.{Later, hold-forward, passivate-forward, cancel-forward, finish-forward, wait-forward, timed-forward}
+use Rattle.simulation_laws.specs.Forward.{Later, hold-forward, passivate-forward, cancel-forward, finish-forward, wait-forward}
+use Rattle.simulation_laws.specs.Forward.{timed-forward}
 use Rattle.simulation_laws.specs.Plain.{withNotices, withTerminated, above, leaving, upTo, dueFor, placed, noEffect, timedNeed}
 use Rattle.simulation_laws.specs.Plain as plain
 use Rattle.machine.specs.Calls.{ListCall, onSet, hold, passivate, wait, cancel, activate, ifEmpty, finish, listsAfter}
@@ -51,7 +52,8 @@ module _ (p : Placing) (old : List Notice) where
   by-leaving l [] f = tt
   by-leaving l (k ∷ ks) f = f
 
-module _ (c : Counts) (l : Lists) (n : Notice) (ns : List Notice) (e : l .notices ≡ n ∷ ns) (o : InOrder (l .notices)) (d : Dist (whos (l .notices)))
+module _ (c : Counts) (l : Lists) (n : Notice) (ns : List Notice) (e : l .notices ≡ n ∷ ns) (o : InOrder (l .notices))
+    (d : Dist (whos (l .notices)))
     (no-zero : In 0 (whos (l .notices)) → ⊥) where
   abbrev old : List Notice
   old = l .notices
@@ -125,8 +127,10 @@ module _ (c : Counts) (l : Lists) (n : Notice) (ns : List Notice) (e : l .notice
   call-notices (hold z) = hold-notices z
   call-notices passivate = by-leaving nothing old l (rest old) rest-gone
   call-notices (wait y) =
-      by-need nothing old (orNone (isHead c y) y) _ (by-leaving nothing old (withSets l (precedeSets (current l) y (l .sets))) (rest old) rest-gone)
-  call-notices (cancel x) = by-need nothing old (orNone (isProcess c x) x) _ (by-leaving nothing old l (dropped x old) (stepwise-drop x old))
+      by-need nothing old (orNone (isHead c y) y) _ (by-leaving nothing old (withSets l (precedeSets (current l) y (l .sets))) (rest old)
+      rest-gone)
+  call-notices (cancel x) = by-need nothing old (orNone (isProcess c x) x)
+      _ (by-leaving nothing old l (dropped x old) (stepwise-drop x old))
   call-notices (activate again k x y z) = timed-notices again k x y z
   call-notices (ifEmpty x) = by-need nothing old (isHead c x) (done l) (stepwise-same old)
   call-notices finish =

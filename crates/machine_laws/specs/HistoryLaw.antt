@@ -13,14 +13,16 @@ use Rattle.simulation_laws.specs.Orders.{Before}
 use Rattle.sheet.specs.Sheet.{Sheet}
 use Rattle.machine.specs.Machine.{fresh}
 use Rattle.machine.specs.Run.{uncut, state}
-use Rattle.machine.specs.History.{How, atFirst, behind, inFront, rightBefore, rightAfter, Placing, nothing, places, placing, Scheduled, nowOr, scheduled, noticesAt, StandsTo, Placed, PlacedBy, isPlaced, Stepwise, Tie, Ties}
+use Rattle.machine.specs.History.{How, atFirst, behind, inFront, rightBefore, rightAfter, Placing, nothing, places, placing, Scheduled}
+use Rattle.machine.specs.History.{nowOr, scheduled, noticesAt, StandsTo, Placed, PlacedBy, isPlaced, Stepwise, Tie, Ties}
 
 whichOf : (x : ℕ) (p : Placing) → isPlaced x p ≡ true → (h : How) × (p ≡ places x h)
 whichOf x nothing e = clash e
 whichOf x (places q h) e = (h, ap (λ (z : ℕ). places z h) (eqb-true q x e))
 
 -- how two notices stand outlives a step that keeps their order
-stands-on : (h : How) (E E′ : Type 0) (a b : ℕ) (old now new : List ℕ) → (E′ → E) → (Before a b now → Before a b new) → (Before b a now → Before b a new)
+stands-on : (h : How) (E E′ : Type 0) (a b : ℕ) (old now new : List ℕ) → (E′ → E) → (Before a b now → Before a b new)
+    → (Before b a now → Before b a new)
     → StandsTo h E a b old now → StandsTo h E′ a b old new
 stands-on atFirst E E′ a b old now new e f g s = s
 stands-on behind E E′ a b old now new e f g s = λ q. f (s (e q))
@@ -70,9 +72,11 @@ module _ (s : Sheet) where
         test (isPlaced a (next n))
         (λ pa. test (isPlaced b (next n))
         (λ pb. one (next n) pa pb)
-        (λ qb. absurd (late n (scheduled s n b .by) (at-most n b) (sym (is-now n a pa) ∙ e ∙ ap (λ (r : Scheduled). r .by) (as-before n b qb)))))
+        (λ qb. absurd (late n (scheduled s n b .by) (at-most n b)
+        (sym (is-now n a pa) ∙ e ∙ ap (λ (r : Scheduled). r .by) (as-before n b qb)))))
         (λ qa. test (isPlaced b (next n))
-        (λ pb. absurd (late n (scheduled s n a .by) (at-most n a) (sym (is-now n b pb) ∙ sym e ∙ ap (λ (r : Scheduled). r .by) (as-before n a qa))))
+        (λ pb. absurd (late n (scheduled s n a .by) (at-most n a)
+        (sym (is-now n b pb) ∙ sym e ∙ ap (λ (r : Scheduled). r .by) (as-before n a qa))))
         (λ qb. apart n a b (steps n .others .there a qa i) (steps n .others .there b qb j)
         (sym (ap (λ (r : Scheduled). r .by) (as-before n a qa)) ∙ e ∙ ap (λ (r : Scheduled). r .by) (as-before n b qb))))
       where
@@ -83,7 +87,8 @@ module _ (s : Sheet) where
         late : (n k : ℕ) → k ≤ n → suc n ≡ k → ⊥
         late n k l q = omega arith
 
-    tie : (n a b : ℕ) → In a (whos (noticesAt s n)) → In b (whos (noticesAt s n)) → scheduled s n a .by < scheduled s n b .by → Tie s n a b (scheduled s n b)
+    tie : (n a b : ℕ) → In a (whos (noticesAt s n)) → In b (whos (noticesAt s n)) → scheduled s n a .by < scheduled s n b .by
+        → Tie s n a b (scheduled s n b)
     tie zero a b i j l = absurd (none (scheduled s 0 a .by) (scheduled s 0 b .by) (at-most 0 b) l)
       where
         none : (k r : ℕ) → r ≤ 0 → k < r → ⊥
@@ -116,7 +121,8 @@ module _ (s : Sheet) where
               stands = rw q (p .stands a other i);
             }
 
-        older : isPlaced a (next n) ≡ false → isPlaced b (next n) ≡ false → Tie s n a b (scheduled s n b) → Tie s (suc n) a b (scheduled s n b)
+        older : isPlaced a (next n) ≡ false → isPlaced b (next n) ≡ false → Tie s n a b (scheduled s n b)
+            → Tie s (suc n) a b (scheduled s n b)
         older qa qb t =
             let o = steps n .others in
             record {

@@ -12,7 +12,8 @@ use Rattle.sheet.specs.Sheet.{Sheet}
 use Rattle.machine.specs.declared.End.the-variants.{Full, Refused}
 use Rattle.machine.specs.Machine.{Machine}
 use Rattle.machine.specs.Steps.{Line, Turn, ended, stepped}
-use Rattle.machine.specs.Run.{turn, Ran, stopped, alsoLine, turns, call, calls, lastOf, linesOf, onward, uncut, uncutLines, lineSize, traceLimit}
+use Rattle.machine.specs.Run.{turn, Ran, stopped, alsoLine, turns, call, calls, lastOf, linesOf, onward, uncut, uncutLines, lineSize}
+use Rattle.machine.specs.Run.{traceLimit}
 
 module _ (s : Sheet) where
   -- accepted steps lead from m to k and write these lines
@@ -20,7 +21,8 @@ module _ (s : Sheet) where
   Path m [] k = m ≡ k
   Path m (l ∷ ls) k = (n : Machine) × (turn s 1 m ≡ stepped l n) × Path n ls k
 
-  path-join : (m : Machine) (ls : List Line) (k : Machine) (ls′ : List Line) (n : Machine) → Path m ls k → Path k ls′ n → Path m (ls ++ ls′) n
+  path-join : (m : Machine) (ls : List Line) (k : Machine) (ls′ : List Line) (n : Machine) → Path m ls k → Path k ls′ n
+      → Path m (ls ++ ls′) n
   path-join m [] k ls′ n e b = subst (λ (x : Machine). Path x ls′ n) (sym e) b
   path-join m (l ∷ ls) k ls′ n a b = (a .0, a .1, path-join (a .0) ls k ls′ n (a .2) b)
 
@@ -35,7 +37,8 @@ module _ (s : Sheet) where
   uncut-on (suc n) m = ap (λ (k : Machine). onward k (turn s 1 k)) (uncut-on n m)
 
   -- such a path is the beginning of the machine never cut
-  pub path-uncut : (m : Machine) (ls : List Line) (k : Machine) → Path m ls k → (ls ≡ uncutLines s (length ls) m) × (k ≡ uncut s (length ls) m)
+  pub path-uncut : (m : Machine) (ls : List Line) (k : Machine) → Path m ls k
+      → (ls ≡ uncutLines s (length ls) m) × (k ≡ uncut s (length ls) m)
   unfolding uncut uncutLines
   path-uncut m [] k e = (refl, sym e)
   path-uncut m (l ∷ ls) k a =
@@ -61,7 +64,8 @@ module _ (s : Sheet) where
       ran : Turn → Ran
       ran t = elim t [ ended e ↦ stopped e m | stepped l k ↦ alsoLine l (turns s room k) ]
 
-      go : (t : Turn) → turn s 1 m ≡ t → ((k : Machine) → Path k (turns s room k .lines) (turns s room k .machine)) → Path m (ran t .lines) (ran t .machine)
+      go : (t : Turn) → turn s 1 m ≡ t → ((k : Machine) → Path k (turns s room k .lines) (turns s room k .machine))
+          → Path m (ran t .lines) (ran t .machine)
       go (ended e) q f = refl
       go (stepped l k) q f = (k, q, f k)
 

@@ -1,5 +1,5 @@
-// What every crate shares: a model's counts, the refusals, answers and verdicts. Linkages are numbered heads first, then processes, then plain
-// links, from 1; 0 means none.
+// What every crate shares: a model's counts, the refusals, answers and verdicts. Linkages are numbered heads first, then processes, then
+// plain links, from 1; 0 means none.
 pub mod answer;
 pub mod call;
 pub mod verdict;

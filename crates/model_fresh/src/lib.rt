@@ -10,7 +10,7 @@ ghost use mathlib.Core.Path.{_≡_};
 ghost use Prim.Native.Nat.{_+_, _*_, _<_, _≤_};
 ghost use lib.ListN.{length};
 ghost use Rattle.ring_laws.specs.Lists.{zeros};
-ghost use Rattle.model_laws.specs.Tables.{Sized};
+ghost use Rattle.model_laws.specs.Tables.{Sized, modelOf};
 ghost use Rattle.model_laws.specs.Fresh.{freshHeads, freshAxis, freshTables, freshed};
 
 // Zeros in every word, at three widths; their proofs cite one law.
@@ -69,8 +69,8 @@ fn start_axis(t: &mut [u32], pw: u32)
 
 // The four tables of a fresh model.
 fn fill(c: Counts, links: &mut [u32], axis: &mut [u32], times: &mut [u64], marks: &mut [u8])
-    requires { ⌜ Sized c (record { links = now links; axis = now axis; times = now times; marks = now marks }) ⌝ }
-    ensures { λ _. ⌜ record { links = now (links .exit); axis = now (axis .exit); times = now (times .exit); marks = now (marks .exit) } ≡ freshTables c ⌝ }
+    requires { ⌜ Sized c (modelOf (now links) (now axis) (now times) (now marks)) ⌝ }
+    ensures { λ _. ⌜ modelOf (now (links .exit)) (now (axis .exit)) (now (times .exit)) (now (marks .exit)) ≡ freshTables c ⌝ }
 {
     let n = c.total();
     clear_words(links);
@@ -88,8 +88,8 @@ pub fn fresh(
     times: &mut [u64],
     marks: &mut [u8],
 ) -> Verdict
-    ensures { λ r. ⌜ record { tables = record { links = now (links .exit); axis = now (axis .exit); times = now (times .exit); marks = now (marks .exit) }; answer = r }
-        ≡ freshed c (record { links = now (links .entry); axis = now (axis .entry); times = now (times .entry); marks = now (marks .entry) }) ⌝ }
+    ensures { λ r. ⌜ record { tables = modelOf (now (links .exit)) (now (axis .exit)) (now (times .exit)) (now (marks .exit)); answer = r }
+        ≡ freshed c (modelOf (now (links .entry)) (now (axis .entry)) (now (times .entry)) (now (marks .entry))) ⌝ }
 {
     let counts = c.within_limits();
     if !counts {

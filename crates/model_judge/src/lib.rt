@@ -10,7 +10,7 @@ ghost use mathlib.Core.Path.{_≡_};
 ghost use Prim.Native.Nat.{_+_, _*_, _<_, _≤_};
 ghost use lib.ListN.{length};
 ghost use Rattle.ring_laws.specs.Stores.{sucs, pres};
-ghost use Rattle.model_laws.specs.Tables.{Sized};
+ghost use Rattle.model_laws.specs.Tables.{Sized, modelOf};
 ghost use Rattle.model_laws.specs.Judge.{linksFine, timeFine, markFine, placesFine, axisFine, tablesFine, lengthsFine, judged};
 ghost use Rattle.model_laws.specs.Tests.{Three};
 
@@ -63,7 +63,8 @@ fn mark_fine(axis: &[u32], marks: &[u8], p: usize, y: usize) -> bool
 // Times and marks of all places.
 fn places_fine(axis: &[u32], times: &[u64], marks: &[u8], p: usize) -> bool
     requires { ⌜ Three p (now axis) (now times) (now marks) ⌝ }
-    ensures { λ r. ⌜ r ≡ placesFine (sucs (p + 2) (now (axis .entry))) (pres (p + 2) (now (axis .entry))) (p + 1) (now (times .entry)) (now (marks .entry)) p ⌝ }
+    ensures { λ r. ⌜ r ≡ placesFine (sucs (p + 2) (now (axis .entry))) (pres (p + 2) (now (axis .entry))) (p + 1) (now (times .entry))
+        (now (marks .entry)) p ⌝ }
 {
     let mut i = p;
     while 0 < i {
@@ -104,8 +105,8 @@ fn axis_fine(axis: &[u32], times: &[u64], marks: &[u8], p: usize) -> bool
 
 // Are the tables of these counts well formed?
 fn tables_fine(c: Counts, links: &[u32], axis: &[u32], times: &[u64], marks: &[u8]) -> bool
-    requires { ⌜ Sized c (record { links = now links; axis = now axis; times = now times; marks = now marks }) ⌝ }
-    ensures { λ r. ⌜ r ≡ tablesFine c (record { links = now (links .entry); axis = now (axis .entry); times = now (times .entry); marks = now (marks .entry) }) ⌝ }
+    requires { ⌜ Sized c (modelOf (now links) (now axis) (now times) (now marks)) ⌝ }
+    ensures { λ r. ⌜ r ≡ tablesFine c (modelOf (now (links .entry)) (now (axis .entry)) (now (times .entry)) (now (marks .entry))) ⌝ }
 {
     let n = c.total();
     let ok = links_fine(links, n + 1, wide(c.heads));
@@ -117,7 +118,7 @@ fn tables_fine(c: Counts, links: &[u32], axis: &[u32], times: &[u64], marks: &[u
 
 // Are the four tables of these lengths?
 pub fn lengths_fine(c: Counts, links: &[u32], axis: &[u32], times: &[u64], marks: &[u8]) -> bool
-    ensures { λ r. ⌜ r ≡ lengthsFine c (record { links = now (links .entry); axis = now (axis .entry); times = now (times .entry); marks = now (marks .entry) }) ⌝ }
+    ensures { λ r. ⌜ r ≡ lengthsFine c (modelOf (now (links .entry)) (now (axis .entry)) (now (times .entry)) (now (marks .entry))) ⌝ }
 {
     let n = c.total();
     if links.len() != 2 * (n + 1) {
@@ -135,7 +136,7 @@ pub fn lengths_fine(c: Counts, links: &[u32], axis: &[u32], times: &[u64], marks
 
 // Refusals 1 and 2 of the whole model.
 pub fn judge_tables(c: Counts, links: &[u32], axis: &[u32], times: &[u64], marks: &[u8]) -> Verdict
-    ensures { λ r. ⌜ r ≡ judged c (record { links = now (links .entry); axis = now (axis .entry); times = now (times .entry); marks = now (marks .entry) }) ⌝ }
+    ensures { λ r. ⌜ r ≡ judged c (modelOf (now (links .entry)) (now (axis .entry)) (now (times .entry)) (now (marks .entry))) ⌝ }
 {
     let counts = c.within_limits();
     if !counts {

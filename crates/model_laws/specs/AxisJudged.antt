@@ -20,7 +20,8 @@ use Rattle.ring_laws.specs.Busy.{idle-not, zeros-idle}
 use Rattle.ring_laws.specs.Rows.{Layout}
 use Rattle.ring_laws.specs.Fine.{sound, complete}
 use Rattle.model_laws.specs.Judge.{placesFine, axisFine}
-use Rattle.model_laws.specs.Tests.{NeverFall, unless, time-idle, time-mean, mean-time, mark-none, mark-idle, mark-mean, places-mean, mean-places, never-fall, order-next}
+use Rattle.model_laws.specs.Tests.{NeverFall, unless, time-idle, time-mean, mean-time, mark-none, mark-idle, mark-mean, places-mean}
+use Rattle.model_laws.specs.Tests.{mean-places, never-fall, order-next}
 
 -- the places with a notice, in order; times and marks as the paper has them
 pub record AxisSpelled (p : ℕ) (events axis times marks : List ℕ) : Type 0 where
@@ -148,7 +149,8 @@ module _ (p : ℕ) (axis times marks : List ℕ) where
         go (z ∷ l) c = omega arith
 
   -- yes: there are events
-  pub axis-sound : length axis ≡ 2 * (p + 2) → axisFine p axis times marks ≡ true → (events : List ℕ) × AxisSpelled p events axis times marks
+  pub axis-sound : length axis ≡ 2 * (p + 2) → axisFine p axis times marks ≡ true
+      → (events : List ℕ) × AxisSpelled p events axis times marks
   axis-sound two e =
       let t : Tests = tests-of e in
       let f = sound (p + 2) (axisHead (p + 2)) 1 (p + 1) 1 (p + 1) (axis-layout p) S P (t .rings) in

@@ -20,7 +20,9 @@ use Rattle.ring_laws.specs.Tabulate.{has, bit, table-at, at-table, has-in}
 use Rattle.model_laws.specs.Tables.{Tables, Lengths, Lists, setHead, axisHead, SpellsSets, Spells, WellFormed}
 use Rattle.model_laws.specs.Judge.{linksFine, axisFine, tablesFine}
 use Rattle.model_laws.specs.AxisJudged.{AxisSpelled, axis-sound, axis-complete, axis-head, axis-event}
-use Rattle.model_laws.specs.Reading.{Timed, noticesOf, places-of, length-of, due-in, due-out, order-of, within-of, whos-of, endedOf, ended-mark, mark-is, who-place, place-who, dist-whos, length-places, due-none, timed, within-timed, order-timed}
+use Rattle.model_laws.specs.Reading.{Timed, noticesOf, places-of, length-of, due-in, due-out, order-of, within-of, whos-of, endedOf}
+use Rattle.model_laws.specs.Reading.{ended-mark, mark-is, who-place, place-who, dist-whos, length-places, due-none, timed}
+use Rattle.model_laws.specs.Reading.{within-timed, order-timed}
 
 -- ---- the sets: the heads 1 .. H, and the links H + 1 .. m - 1
 
@@ -35,7 +37,8 @@ sets-layout m H l =
       span = omega arith;
     }
 
-pub links-sound : (m H : ℕ) (t : List ℕ) → H < m → length t ≡ 2 * m → linksFine m H t ≡ true → (sets : List (List ℕ)) × SpellsSets m H sets t
+pub links-sound : (m H : ℕ) (t : List ℕ) → H < m → length t ≡ 2 * m → linksFine m H t ≡ true
+    → (sets : List (List ℕ)) × SpellsSets m H sets t
 links-sound m H t l two e =
     let f = sound m (setHead H) H 1 (H + 1) m (sets-layout m H l) (sucs m t) (pres m t) e in
     (f .sets, record { all = f .all; spelled = record { two = two; rings = f .rings } })
@@ -68,7 +71,8 @@ module _ (c : Counts) (t : Tables) (len : Lengths c t) (sets : List (List ℕ)) 
             (λ k. sym (due-in c (t .times) events y k))
             (λ out. s .idle-times y b out ∙ sym (due-out c (t .times) events y out)));
         marks =
-            at-table (λ p. bit (has (c .heads + p) (endedOf (c .heads) (t .marks) (c .processes)))) (c .processes) (t .marks) (len .marks-is) (s .zero-mark)
+            at-table (λ p. bit (has (c .heads + p) (endedOf (c .heads) (t .marks) (c .processes)))) (c .processes) (t .marks)
+            (len .marks-is) (s .zero-mark)
             (λ y a b. mark-is (c .heads) (t .marks) (c .processes) y a b (⊎-elim (λ z. inl z) (λ w. inr (w .0)) (s .marked y b)));
         some = omega (arith, length-of c (t .times) events, s .some);
         in-order = order-of c (t .times) events (s .order);
@@ -96,7 +100,8 @@ module _ (c : Counts) (l : Lists) (t : Tables) (s : Spells c l t) where
   pub notice-each : Dist (whos (l .notices))
   notice-each =
       dist-whos c (l .notices)
-      (spells-dist (c .processes + 2) (axisHead (c .processes + 2)) (λ h. places c (l .notices)) (t .axis) (s .axis) (c .processes + 1) (axis-head (c .processes)) .1)
+      (spells-dist (c .processes + 2) (axisHead (c .processes + 2)) (λ h. places c (l .notices)) (t .axis) (s .axis) (c .processes + 1)
+      (axis-head (c .processes)) .1)
 
   -- who has a notice is a process
   pub notice-process : (x : ℕ) → In x (whos (l .notices)) → (c .heads < x) × (x ≤ c .heads + c .processes)
@@ -111,7 +116,8 @@ module _ (c : Counts) (l : Lists) (t : Tables) (s : Spells c l t) where
       (λ x k.
       let b = notice-process x k in
       let q : c .heads + (x - c .heads) ≡ x = omega (arith, b) in
-      table-at (λ p. dueOf (c .heads + p) (l .notices)) (c .processes) (t .times) (s .times) (x - c .heads) (omega (arith, b)) (omega (arith, b))
+      table-at (λ p. dueOf (c .heads + p) (l .notices)) (c .processes) (t .times) (s .times) (x - c .heads) (omega (arith, b))
+      (omega (arith, b))
       ∙ ap (λ (j : ℕ). dueOf j (l .notices)) q)
 
   pub axis-spelled : AxisSpelled (c .processes) (places c (l .notices)) (t .axis) (t .times) (t .marks)

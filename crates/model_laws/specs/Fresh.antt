@@ -72,7 +72,8 @@ heads-length m zero t two l = two
 heads-length m (suc n) t two l = self-length m (freshHeads m n t) (suc n) (heads-length m n t two (omega arith)) l
 
 module _ (m : ℕ) (t : List ℕ) (two : length t ≡ 2 * m) where
-  heads-off : (n i : ℕ) → n < m → (i ≡ 0) ⊎ (n < i) → (sucs m (freshHeads m n t) i ≡ sucs m t i) × (pres m (freshHeads m n t) i ≡ pres m t i)
+  heads-off : (n i : ℕ) → n < m → (i ≡ 0) ⊎ (n < i) → (sucs m (freshHeads m n t) i ≡ sucs m t i)
+      × (pres m (freshHeads m n t) i ≡ pres m t i)
   unfolding freshHeads
   heads-off zero i l o = (refl, refl)
   heads-off (suc n) i l o =
@@ -176,7 +177,8 @@ fresh-spells c a =
     let one : main c - c .heads ≡ 1 = omega arith in
     record {
       links = links-fresh (total c + 1) (c .heads) (omega arith);
-      axis = subst (λ (j : ℕ). SpellsAxis (c .processes + 2) (j ∷ []) (freshAxis (c .processes))) (sym one) (axis-fresh (c .processes) (a .some));
+      axis = subst (λ (j : ℕ). SpellsAxis (c .processes + 2) (j ∷ []) (freshAxis (c .processes))) (sym one)
+          (axis-fresh (c .processes) (a .some));
       times = all-zero (λ p. dueOf (c .heads + p) (record { who = main c; due = 0 } ∷ [])) (c .processes) (λ y. due y);
       marks = all-zero (λ p. 0) (c .processes) (λ y. refl);
       some = omega arith;

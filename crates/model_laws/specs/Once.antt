@@ -20,7 +20,8 @@ module _ (c : Counts) (l : Lists) (t : Tables) (s : Spells c l t) where
 
   rows : Rows m (setHead (c .heads)) (sucs m (t .links)) (pres m (t .links)) 1 (l .sets)
   rows =
-      rings-rows m (setHead (c .heads)) (c .heads) 1 (c .heads + 1) m (sets-layout m (c .heads) (omega arith)) (sucs m (t .links)) (pres m (t .links))
+      rings-rows m (setHead (c .heads)) (c .heads) 1 (c .heads + 1) m (sets-layout m (c .heads) (omega arith)) (sucs m (t .links))
+      (pres m (t .links))
       (l .sets) (s .links .all) (s .links .spelled .rings)
 
   pub links-once : Dist (joined (l .sets))

@@ -14,7 +14,7 @@ use Rattle.model.specs.declared.Counts.{Counts}
 use Rattle.model.specs.Counts.{total}
 use Rattle.model_laws.specs.Notices.{places}
 use Rattle.ring_laws.specs.Tabulate.{has, bit, table-at, has-in, in-has, bit-one}
-use Rattle.model_laws.specs.Tables.{Tables, Lists, setHead, axisHead, membersOf, SpellsSets, Spells}
+use Rattle.model_laws.specs.Tables.{Tables, Lists, setHead, axisHead, membersOf, SpellsSets, Spells, modelOf}
 use Rattle.model_laws.specs.AxisJudged.{axis-head}
 use Rattle.model_laws.specs.Reading.{noticesOf, notices-are}
 use Rattle.model_laws.specs.Formed.{notice-process, notices-timed}
@@ -42,7 +42,8 @@ module _ (c : Counts) (t : Tables) (a b : Lists) (s : Spells c a t) (u : Spells 
   notices-only =
       notices-are c (t .times) (a .notices) (λ x k. omega (arith, notice-process c a t s x k)) (notices-timed c a t s)
       ∙ ap (noticesOf (c .heads) (t .times))
-      (spells-one m (axisHead m) (λ h. places c (a .notices)) (λ h. places c (b .notices)) (t .axis) (s .axis) (u .axis) (c .processes + 1) (axis-head (c .processes)))
+      (spells-one m (axisHead m) (λ h. places c (a .notices)) (λ h. places c (b .notices)) (t .axis) (s .axis) (u .axis) (c .processes + 1)
+      (axis-head (c .processes)))
       ∙ sym (notices-are c (t .times) (b .notices) (λ x k. omega (arith, notice-process c b t u x k)) (notices-timed c b t u))
 
   ended-only : (x : ℕ) → In x (a .terminated) → In x (b .terminated)
@@ -51,9 +52,12 @@ module _ (c : Counts) (t : Tables) (a b : Lists) (s : Spells c a t) (u : Spells 
       let q : c .heads + (x - c .heads) ≡ x = omega (arith, e .0) in
       let y : ℕ = x - c .heads in
       let p : bit (has (c .heads + (x - c .heads)) (a .terminated)) ≡ bit (has (c .heads + (x - c .heads)) (b .terminated)) =
-      sym (table-at (λ p. bit (has (c .heads + p) (a .terminated))) (c .processes) (t .marks) (s .marks) (x - c .heads) (omega (arith, e .0)) (omega (arith, e .1)))
-      ∙ table-at (λ p. bit (has (c .heads + p) (b .terminated))) (c .processes) (t .marks) (u .marks) (x - c .heads) (omega (arith, e .0)) (omega (arith, e .1)) in
-      let r : has x (a .terminated) ≡ has x (b .terminated) = subst (λ (j : ℕ). has j (a .terminated) ≡ has j (b .terminated)) q (bit-one _ _ p) in
+      sym (table-at (λ p. bit (has (c .heads + p) (a .terminated))) (c .processes) (t .marks) (s .marks) (x - c .heads)
+      (omega (arith, e .0)) (omega (arith, e .1)))
+      ∙ table-at (λ p. bit (has (c .heads + p) (b .terminated))) (c .processes) (t .marks) (u .marks) (x - c .heads) (omega (arith, e .0))
+      (omega (arith, e .1)) in
+      let r : has x (a .terminated) ≡ has x (b .terminated) =
+      subst (λ (j : ℕ). has j (a .terminated) ≡ has j (b .terminated)) q (bit-one _ _ p) in
       has-in x (b .terminated) (sym r ∙ in-has x (a .terminated) k)
 
   pub lists-only : Same a b
@@ -68,6 +72,7 @@ module _ (c : Counts) (t : Tables) (a b : Lists) (s : Spells c a t) (u : Spells 
 pub tables-only : (c : Counts) (l : Lists) (t u : Tables) → Spells c l t → Spells c l u → t ≡ u
 tables-only c l t u s w =
     let m : ℕ = c .processes + 2 in
-    let e1 = one-table (total c + 1) (setHead (c .heads)) (membersOf (l .sets)) (t .links) (u .links) (s .links .spelled) (w .links .spelled) in
+    let e1 = one-table (total c + 1) (setHead (c .heads)) (membersOf (l .sets)) (t .links) (u .links) (s .links .spelled)
+    (w .links .spelled) in
     let e2 = one-table m (axisHead m) (λ h. places c (l .notices)) (t .axis) (u .axis) (s .axis) (w .axis) in
-    λ i. record { links = e1 i; axis = e2 i; times = (s .times ∙ sym (w .times)) i; marks = (s .marks ∙ sym (w .marks)) i }
+    λ i. modelOf (e1 i) (e2 i) ((s .times ∙ sym (w .times)) i) ((s .marks ∙ sym (w .marks)) i)

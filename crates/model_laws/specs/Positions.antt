@@ -39,7 +39,8 @@ module _ (R : ℕ) (positions : List ℕ) where
       let r = positions-sound p (sym (positions-on p l) ∙ e) in
       (r .0, λ y b. decide y (suc p) (λ q. omega (arith, ap (λ (j : ℕ). getD positions j 0) q)) (λ n. r .1 y (omega arith))))
 
-  pub positions-complete : (p : ℕ) → getD positions 0 0 ≡ 0 → ((y : ℕ) → y ≤ p → getD positions y 0 ≤ R) → positionsFine R positions p ≡ true
+  pub positions-complete : (p : ℕ) → getD positions 0 0 ≡ 0 → ((y : ℕ) → y ≤ p → getD positions y 0 ≤ R)
+      → positionsFine R positions p ≡ true
   positions-complete zero z f = positions-zero ∙ eq-eqb (getD positions 0 0) 0 z
   positions-complete (suc p) z f = positions-on p (f (suc p) (omega arith)) ∙ positions-complete p z (λ y l. f y (omega arith))
 

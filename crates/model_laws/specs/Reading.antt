@@ -89,7 +89,8 @@ module _ (H : ℕ) (marks : List ℕ) where
       (λ q. rw (eq-eqb (getD marks (suc n) 0) 1 q) (inr i))
       (λ q. rw (ne-eqb (getD marks (suc n) 0) 1 q) i))
 
-  pub mark-is : (p y : ℕ) → 0 < y → y ≤ p → (getD marks y 0 ≡ 0) ⊎ (getD marks y 0 ≡ 1) → getD marks y 0 ≡ bit (has (H + y) (endedOf H marks p))
+  pub mark-is : (p y : ℕ) → 0 < y → y ≤ p → (getD marks y 0 ≡ 0) ⊎ (getD marks y 0 ≡ 1)
+      → getD marks y 0 ≡ bit (has (H + y) (endedOf H marks p))
   mark-is p y a b (inr e) = e ∙ ap bit (sym (in-has (H + y) (endedOf H marks p) (mark-ended p y a b e)))
   mark-is p y a b (inl z) =
       test (has (H + y) (endedOf H marks p))
@@ -132,7 +133,8 @@ module _ (c : Counts) where
   length-places [] = refl
   length-places (n ∷ ns) = ap suc (length-places ns)
 
-  pub timed : (times : List ℕ) (ns : List Notice) → Dist (whos ns) → ((x : ℕ) → In x (whos ns) → getD times (x - c .heads) 0 ≡ dueOf x ns) → Timed c times ns
+  pub timed : (times : List ℕ) (ns : List Notice) → Dist (whos ns) → ((x : ℕ) → In x (whos ns) → getD times (x - c .heads) 0 ≡ dueOf x ns)
+      → Timed c times ns
   timed times [] d f = tt
   timed times (n ∷ ns) d f = (
     f (n .who) (inl refl) ∙ own,
@@ -145,7 +147,8 @@ module _ (c : Counts) where
       later : (x : ℕ) → In x (whos ns) → dueOf x (n ∷ ns) ≡ dueOf x ns
       later x i = rw (ne-eqb (n .who) x (λ e. d .0 (rw (← e) at i)))
 
-  pub within-timed : (times : List ℕ) (ns : List Notice) → Timed c times ns → Within ns → (y : ℕ) → In y (places c ns) → getD times y 0 ≤ limit
+  pub within-timed : (times : List ℕ) (ns : List Notice) → Timed c times ns → Within ns → (y : ℕ) → In y (places c ns)
+      → getD times y 0 ≤ limit
   within-timed times [] t w y k = absurd k
   within-timed times (n ∷ ns) t w y k =
       ⊎-elim
@@ -153,7 +156,8 @@ module _ (c : Counts) where
       (λ i. within-timed times ns (t .1) (w .1) y i)
       k
 
-  from-timed : (times : List ℕ) (u : ℕ) (ns : List Notice) → Timed c times ns → From u ns → (y : ℕ) → In y (places c ns) → u ≤ getD times y 0
+  from-timed : (times : List ℕ) (u : ℕ) (ns : List Notice) → Timed c times ns → From u ns → (y : ℕ) → In y (places c ns)
+      → u ≤ getD times y 0
   from-timed times u [] t f y i = absurd i
   from-timed times u (k ∷ ks) t f y (inl e) = omega (arith, ap (λ (j : ℕ). getD times j 0) e, t .0, f .0)
   from-timed times u (k ∷ ks) t f y (inr i) = from-timed times u ks (t .1) (f .1) y i

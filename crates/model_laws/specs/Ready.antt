@@ -45,7 +45,8 @@ formed-ready c l t z w =
       allowed = z .allowed;
       lengths = z .lengths;
       links-sound = spells-sound (total c + 1) (setHead (c .heads)) (membersOf (l .sets)) (t .links) (w .links .spelled) (omega arith);
-      axis-sound = spells-sound (c .processes + 2) (axisHead (c .processes + 2)) (λ h. places c (l .notices)) (t .axis) (s .ring) (omega arith);
+      axis-sound = spells-sound (c .processes + 2) (axisHead (c .processes + 2)) (λ h. places c (l .notices)) (t .axis) (s .ring)
+          (omega arith);
       times-in = λ y.
           below (c .processes) y
           (λ b. omega (arith, List·getD-eq-default (t .times) 0 {n = y} (omega (arith, z .lengths .times-is))))
@@ -66,8 +67,10 @@ formed-ready c l t z w =
           ∙ head);
     }
   where
-    first : (k : List ℕ) → 0 < length k → Chain (sucs (c .processes + 2) (t .axis)) (pres (c .processes + 2) (t .axis)) (c .processes + 1) k (c .processes + 1)
-        → ((y : ℕ) → In y k → (0 < y) × (y ≤ c .processes)) → (0 < sucs (c .processes + 2) (t .axis) (c .processes + 1)) × (sucs (c .processes + 2) (t .axis) (c .processes + 1) ≤ c .processes)
+    first : (k : List ℕ) → 0 < length k → Chain (sucs (c .processes + 2) (t .axis)) (pres (c .processes + 2) (t .axis)) (c .processes + 1) k
+        (c .processes + 1)
+        → ((y : ℕ) → In y k → (0 < y) × (y ≤ c .processes)) → (0 < sucs (c .processes + 2) (t .axis) (c .processes + 1))
+        × (sucs (c .processes + 2) (t .axis) (c .processes + 1) ≤ c .processes)
     first [] p q g = absurd (not-suc-le-zero p)
     first (z ∷ k) p q g = rw (q .0 .next) (g z (inl refl))
 

@@ -20,6 +20,10 @@ pub record Tables : Type 0 where
   pub times : List ℕ
   pub marks : List ℕ
 
+-- by the words of the slices that are lent
+abbrev pub modelOf : List ℕ → List ℕ → List ℕ → List ℕ → Tables
+modelOf links axis times marks = record { links = links; axis = axis; times = times; marks = marks }
+
 -- "links, 2 × (N + 1) words ..; axis, 2 × (P + 2) words ..; times, P + 1 words ..; marks, P + 1 bytes"
 pub record Lengths (c : Counts) (t : Tables) : Type 0 where
   pub links-is : length (t .links) ≡ 2 * (total c + 1)
@@ -77,7 +81,8 @@ pub record Spells (c : Counts) (l : Lists) (t : Tables) : Type 0 where
   pub in-order : InOrder (l .notices)
   pub within : Within (l .notices)
   -- "A terminated process is idle and isn't main"
-  pub ended : (x : ℕ) → In x (l .terminated) → (c .heads < x) × (x ≤ c .heads + c .processes) × (x ≢ main c) × (In x (whos (l .notices)) → ⊥)
+  pub ended : (x : ℕ) → In x (l .terminated) → (c .heads < x) × (x ≤ c .heads + c .processes) × (x ≢ main c)
+      × (In x (whos (l .notices)) → ⊥)
 
 -- tables are well formed where there are lists that they spell
 abbrev pub WellFormed : Counts → Tables → Type 0

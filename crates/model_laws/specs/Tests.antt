@@ -49,13 +49,15 @@ module _ (S P : ℕ → ℕ) (h : ℕ) (times : List ℕ) (y : ℕ) where
   time-next e l b = rw (e, le-ltb limit (getD times y 0) l, lt-leb h (S y) b)
 
   -- what it means of a place with a notice
-  pub time-mean : idle S P y ≡ false → timeFine S P h times y ≡ true → (getD times y 0 ≤ limit) × (S y < h → getD times y 0 ≤ getD times (S y) 0)
+  pub time-mean : idle S P y ≡ false → timeFine S P h times y ≡ true
+      → (getD times y 0 ≤ limit) × (S y < h → getD times y 0 ≤ getD times (S y) 0)
   time-mean e f =
       below limit (getD times y 0)
       (λ l. clash (sym (time-past e l) ∙ f))
       (λ l. (l, λ b. leb-true (getD times y 0) (getD times (S y) 0) (sym (time-next e l b) ∙ f)))
 
-  pub mean-time : idle S P y ≡ false → getD times y 0 ≤ limit → (S y < h → getD times y 0 ≤ getD times (S y) 0) → timeFine S P h times y ≡ true
+  pub mean-time : idle S P y ≡ false → getD times y 0 ≤ limit → (S y < h → getD times y 0 ≤ getD times (S y) 0)
+      → timeFine S P h times y ≡ true
   mean-time e l f = below (S y) h (λ b. time-next e l b ∙ le-leb (getD times y 0) (getD times (S y) 0) (f b)) (λ b. time-last e l b)
 
 module _ (S P : ℕ → ℕ) (marks : List ℕ) (y : ℕ) where
@@ -94,7 +96,8 @@ module _ (S P : ℕ → ℕ) (h : ℕ) (times marks : List ℕ) where
   unfolding placesFine
   places-time i e = rw e
 
-  pub places-mark : (i : ℕ) → timeFine S P h times (suc i) ≡ true → markFine S P marks (suc i) ≡ false → placesFine S P h times marks (suc i) ≡ false
+  pub places-mark : (i : ℕ) → timeFine S P h times (suc i) ≡ true → markFine S P marks (suc i) ≡ false
+      → placesFine S P h times marks (suc i) ≡ false
   unfolding placesFine
   places-mark i e f = rw (e, f)
 
@@ -103,7 +106,8 @@ module _ (S P : ℕ → ℕ) (h : ℕ) (times marks : List ℕ) where
   unfolding placesFine
   places-on i e f = rw (e, f)
 
-  pub places-mean : (i y : ℕ) → placesFine S P h times marks i ≡ true → 0 < y → y ≤ i → (timeFine S P h times y ≡ true) × (markFine S P marks y ≡ true)
+  pub places-mean : (i y : ℕ) → placesFine S P h times marks i ≡ true → 0 < y → y ≤ i
+      → (timeFine S P h times y ≡ true) × (markFine S P marks y ≡ true)
   places-mean zero y e a b = absurd (none a b)
     where
       none : 0 < y → y ≤ 0 → ⊥
@@ -127,7 +131,8 @@ module _ (S P : ℕ → ℕ) (h : ℕ) (times marks : List ℕ) where
 -- ---- times along a chain
 
 module _ (S P : ℕ → ℕ) (h : ℕ) (times : List ℕ) where
-  first-least : (a : ℕ) (l : List ℕ) → Chain S P a l h → (In h l → ⊥) → ((y : ℕ) → In y (a ∷ l) → S y ≢ h → getD times y 0 ≤ getD times (S y) 0)
+  first-least : (a : ℕ) (l : List ℕ) → Chain S P a l h → (In h l → ⊥)
+      → ((y : ℕ) → In y (a ∷ l) → S y ≢ h → getD times y 0 ≤ getD times (S y) 0)
       → (y : ℕ) → In y l → getD times a 0 ≤ getD times y 0
   first-least a [] c out f y k = absurd k
   first-least a (z ∷ l) c out f y k =
@@ -139,13 +144,15 @@ module _ (S P : ℕ → ℕ) (h : ℕ) (times : List ℕ) where
       k
 
   -- times that never fall from place to place are in order
-  pub never-fall : (a : ℕ) (l : List ℕ) → Chain S P a l h → (In h l → ⊥) → ((y : ℕ) → In y l → S y ≢ h → getD times y 0 ≤ getD times (S y) 0)
+  pub never-fall : (a : ℕ) (l : List ℕ) → Chain S P a l h → (In h l → ⊥)
+      → ((y : ℕ) → In y l → S y ≢ h → getD times y 0 ≤ getD times (S y) 0)
       → NeverFall times l
   never-fall a [] c out f = tt
   never-fall a (z ∷ l) c out f =
       (first-least z l (c .1) (λ w. out (inr w)) f, never-fall z l (c .1) (λ w. out (inr w)) (λ y i. f y (inr i)))
 
-  pub order-next : (a : ℕ) (l : List ℕ) → Chain S P a l h → NeverFall times l → (y : ℕ) → In y l → S y ≢ h → getD times y 0 ≤ getD times (S y) 0
+  pub order-next : (a : ℕ) (l : List ℕ) → Chain S P a l h → NeverFall times l → (y : ℕ) → In y l → S y ≢ h
+      → getD times y 0 ≤ getD times (S y) 0
   order-next a [] c o y k n = absurd k
   order-next a (z ∷ []) c o y (inl e) n = absurd (n (ap S e ∙ c .1 .next))
   order-next a (z ∷ x ∷ l) c o y (inl e) n =

@@ -11,7 +11,7 @@ use lib.ListN.{length, getD}
 use borrow.Author.Tests.{not-true, not-false}
 use Rattle.ring_laws.specs.Lists.{if_then_else_, decide, test}
 use Rattle.ring_laws.specs.Stores.{sucs, pres, suc-at}
-use Rattle.ring_laws.specs.Judge.{Space, Stepped, Bounded, allowed, step, walk, closed, idle, busy, ringsFine}
+use Rattle.ring_laws.specs.Judge.{Space, WalkStep, Bounded, allowed, step, walk, closed, idle, busy, ringsFine}
 use Rattle.ring_laws.specs.RingWalk.{allowed-mean, step-not, step-one-way, step-is, walk-broken, walk-back, walk-short, walk-on}
 use Rattle.ring_laws.specs.Busy.{idle-not, idle-last, busy-none, busy-idle, busy-more}
 use Rattle.ring_laws.specs.Rows.{closed-none, closed-broken, closed-on}
@@ -25,7 +25,7 @@ module _ (m : ℕ) (t : List ℕ) where
   half-idle x l e = sym (idle-last (sucs m t) (pres m t) x (suc-at m t x l ∙ e))
 
   module _ (lo hi h a : ℕ) where
-    pub next-not : (s : ℕ) (ok : Bool) → a < m → s ≡ getD t a 0 → ok ≡ allowed lo hi h s → ok ≡ false → Stepped m (step (sucs m t) (pres m t) lo hi h a) 0
+    pub next-not : (s : ℕ) (ok : Bool) → a < m → s ≡ getD t a 0 → ok ≡ allowed lo hi h s → ok ≡ false → WalkStep m (step (sucs m t) (pres m t) lo hi h a) 0
     next-not s ok l e f g =
         record {
           is = sym (step-not (sucs m t) (pres m t) lo hi h a (ap (allowed lo hi h) (suc-at m t a l ∙ sym e) ∙ sym f ∙ g));
@@ -36,7 +36,7 @@ module _ (m : ℕ) (t : List ℕ) where
     next-in-table s ok l u f g =
         decide s h (λ e. omega arith) (λ n. omega (arith, allowed-mean lo hi h s n (sym f ∙ g)))
 
-    pub next-one-way : (s p : ℕ) → a < m → s ≡ getD t a 0 → p ≡ getD t (m + s) 0 → p ≢ a → Stepped m (step (sucs m t) (pres m t) lo hi h a) 0
+    pub next-one-way : (s p : ℕ) → a < m → s ≡ getD t a 0 → p ≡ getD t (m + s) 0 → p ≢ a → WalkStep m (step (sucs m t) (pres m t) lo hi h a) 0
     next-one-way s p l e f n =
         record {
           is = sym (step-one-way (sucs m t) (pres m t) lo hi h a (λ z. n (f ∙ ap (pres m t) (e ∙ sym (suc-at m t a l)) ∙ z)));
@@ -44,7 +44,7 @@ module _ (m : ℕ) (t : List ℕ) where
         }
 
     pub next-is : (s p : ℕ) (ok : Bool) → Space m hi t → h < m → a < m → s ≡ getD t a 0 → ok ≡ allowed lo hi h s → ok ≡ true → p ≡ getD t (m + s) 0 → p ≡ a
-        → Stepped m (step (sucs m t) (pres m t) lo hi h a) s
+        → WalkStep m (step (sucs m t) (pres m t) lo hi h a) s
     next-is s p ok sp hm l e f g q n =
         let s-is : sucs m t a ≡ s = suc-at m t a l ∙ sym e in
         record {
@@ -64,7 +64,7 @@ module _ (m : ℕ) (t : List ℕ) (lo hi h left : ℕ) where
   pub rounds-start : h < m → Rounds m t lo hi h left h left
   rounds-start l = record { at = l; few = omega arith; rest = refl }
 
-  module _ (a k s : ℕ) (r : Rounds m t lo hi h left a k) (st : Stepped m (step (sucs m t) (pres m t) lo hi h a) s) where
+  module _ (a k s : ℕ) (r : Rounds m t lo hi h left a k) (st : WalkStep m (step (sucs m t) (pres m t) lo hi h a) s) where
     pub rounds-broken : s ≡ 0 → Bounded (left + 1) (walk (sucs m t) (pres m t) lo hi h left h) 0
     rounds-broken e =
         record { is = sym (walk-broken (sucs m t) (pres m t) lo hi h k a (sym (st .is) ∙ e)) ∙ r .rest; few = omega arith }

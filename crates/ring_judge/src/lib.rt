@@ -6,7 +6,7 @@ ghost use Prim.Native.Nat.{_+_, _*_, _-_, _<_, _≤_};
 ghost use lib.ListN.{length};
 ghost use Rattle.ring_laws.specs.Lists.{if_then_else_};
 ghost use Rattle.ring_laws.specs.Stores.{sucs, pres};
-ghost use Rattle.ring_laws.specs.Judge.{Space, Plan, Stepped, Bounded, allowed, step, walk, closed, idle, busy, ringsFine};
+ghost use Rattle.ring_laws.specs.Judge.{Space, Plan, WalkStep, Bounded, allowed, step, walk, closed, idle, busy, ringsFine};
 
 // May s stand on the ring of h?
 fn may_stand(lo: usize, hi: usize, h: usize, s: usize) -> bool
@@ -25,7 +25,7 @@ fn may_stand(lo: usize, hi: usize, h: usize, s: usize) -> bool
 fn next_place(t: &[u32], m: usize, lo: usize, hi: usize, h: usize, a: usize) -> usize
     requires { ⌜ Space m hi (now t) ⌝ }
     requires { ⌜ (h < m) × (a < m) ⌝ }
-    ensures { λ r. ⌜ Stepped m (step (sucs m (now (t .entry))) (pres m (now (t .entry))) lo hi h a) r ⌝ }
+    ensures { λ r. ⌜ WalkStep m (step (sucs m (now (t .entry))) (pres m (now (t .entry))) lo hi h a) r ⌝ }
 {
     let s = wide(t[a]);
     let ok = may_stand(lo, hi, h, s);

@@ -11,7 +11,8 @@ use Rattle.ring_laws.specs.Rings.{Head, Link, Rings}
 use Rattle.ring_laws.specs.Judge.{idle, busy, closed, ringsFine}
 use Rattle.ring_laws.specs.Distinct.{joined, fits, covers}
 use Rattle.ring_laws.specs.Busy.{idle-zeros, zeros-idle, busy-place, place-busy, busy-dist}
-use Rattle.ring_laws.specs.Rows.{Layout, Row, Rows, Closed, in-at, at-in, row-at, rows-of, rows-dist, rows-busy, closed-rows, rows-closed}
+use Rattle.ring_laws.specs.Rows.{Layout, Row, Rows, Closed, in-at, at-in, row-at, rows-of, rows-dist, rows-busy, closed-rows}
+use Rattle.ring_laws.specs.Rows.{rows-closed}
 
 module _ (S P : ℕ → ℕ) (lo hi n g : ℕ) where
   pub fine-not : idle S P 0 ≡ false → ringsFine S P lo hi n g ≡ false
@@ -39,7 +40,8 @@ module _ (m : ℕ) (isHead : ℕ → Bool) (n g lo hi : ℕ) (lay : Layout m isH
   pub sound : ringsFine S P lo hi n g ≡ true → Found m isHead S P n g
   sound e =
       test (idle S P 0)
-      (λ z. found (idle-zeros S P 0 z) (closed-rows m isHead S P lo hi n g (length (busy S P lo (hi - lo))) (lay .in-head) (lay .in-link) (sym (fine-is S P lo hi n g z) ∙ e)))
+      (λ z. found (idle-zeros S P 0 z) (closed-rows m isHead S P lo hi n g (length (busy S P lo (hi - lo))) (lay .in-head) (lay .in-link)
+      (sym (fine-is S P lo hi n g z) ∙ e)))
       (λ z. clash (sym (fine-not S P lo hi n g z) ∙ e))
     where
       found : (S 0 ≡ 0) × (P 0 ≡ 0) → Closed m isHead S P n g (length (busy S P lo (hi - lo))) → Found m isHead S P n g
@@ -101,4 +103,5 @@ module _ (m : ℕ) (isHead : ℕ → Bool) (n g lo hi : ℕ) (lay : Layout m isH
       (r .whole y (busy-link y k))) in
       fine-is S P lo hi n g (zeros-idle S P 0 (r .zero-s) (r .zero-p))
       ∙ ap (λ (j : ℕ). closed S P lo hi j g (length (busy S P lo (hi - lo)))) (sym all)
-      ∙ rows-closed m isHead S P lo hi sets g (length (busy S P lo (hi - lo))) (λ z. omega (arith, lay .low)) (lay .link-in) (lay .in-link) rows (omega arith)
+      ∙ rows-closed m isHead S P lo hi sets g (length (busy S P lo (hi - lo))) (λ z. omega (arith, lay .low)) (lay .link-in) (lay .in-link)
+      rows (omega arith)

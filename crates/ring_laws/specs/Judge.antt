@@ -50,7 +50,7 @@ pub record Space (m hi : ℕ) (t : List ℕ) : Type 0 where
   pub top : hi ≤ m
 
 -- the next place, within the table
-pub record Stepped (m want got : ℕ) : Type 0 where
+pub record WalkStep (m want got : ℕ) : Type 0 where
   pub is : got ≡ want
   pub at : got < m
 

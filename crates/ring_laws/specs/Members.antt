@@ -2,7 +2,8 @@
 -- membership is a proposition, which gives no place. They say the same.
 use Prim.Native.Nat.{ℕ}
 use mathlib.Core.Logic.{inl, inr, Or·elim}
-use mathlib.Core.List.{List, [], _∷_, List·Mem, List·Nodup, not-mem-nil, mem-cons-self, mem-cons-of-mem, mem-cast, eq-or-mem-of-mem-cons, nodup-nil, nodup-cons}
+use mathlib.Core.List.{List, [], _∷_, List·Mem, List·Nodup, not-mem-nil, mem-cons-self, mem-cons-of-mem, mem-cast, eq-or-mem-of-mem-cons}
+use mathlib.Core.List.{nodup-nil, nodup-cons}
 use Rattle.ring_laws.specs.Lists.{In, inside}
 use Rattle.ring_laws.specs.Distinct.{Dist}
 

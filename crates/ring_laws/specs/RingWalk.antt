@@ -58,7 +58,8 @@ module _ (S P : ℕ → ℕ) (lo hi h : ℕ) where
   unfolding walk
   walk-short a n e = rw (ne-eqb (step S P lo hi h a) 0 n, ne-eqb (step S P lo hi h a) h e)
 
-  pub walk-on : (k a : ℕ) → step S P lo hi h a ≢ 0 → step S P lo hi h a ≢ h → walk S P lo hi h (suc k) a ≡ walk S P lo hi h k (step S P lo hi h a)
+  pub walk-on : (k a : ℕ) → step S P lo hi h a ≢ 0 → step S P lo hi h a ≢ h
+      → walk S P lo hi h (suc k) a ≡ walk S P lo hi h k (step S P lo hi h a)
   unfolding walk
   walk-on k a n e = rw (ne-eqb (step S P lo hi h a) 0 n, ne-eqb (step S P lo hi h a) h e)
 
@@ -86,7 +87,7 @@ module _ (S P : ℕ → ℕ) (lo hi h : ℕ) where
           (λ o. absurd (n (step-one-way S P lo hi h a o)))
 
 -- after a come links and then h, and r of k are left
-pub record Passed (S P : ℕ → ℕ) (lo hi h a k r : ℕ) : Type 0 where
+pub record WalkPassed (S P : ℕ → ℕ) (lo hi h a k r : ℕ) : Type 0 where
   pub members : List ℕ
   pub chain : Chain S P a members h
   pub links : (y : ℕ) → In y members → (lo ≤ y) × (y < hi)
@@ -99,8 +100,8 @@ none r z = absurd (go z)
     go z = omega arith
 
 module _ (S P : ℕ → ℕ) (lo hi h : ℕ) where
-  walk-case : (k a r : ℕ) → walk S P lo hi h k a ≡ suc r → (step S P lo hi h a ≢ 0 → step S P lo hi h a ≢ h → Passed S P lo hi h a k r)
-      → Passed S P lo hi h a k r
+  walk-case : (k a r : ℕ) → walk S P lo hi h k a ≡ suc r → (step S P lo hi h a ≢ 0 → step S P lo hi h a ≢ h → WalkPassed S P lo hi h a k r)
+      → WalkPassed S P lo hi h a k r
   walk-case k a r e f =
       decide (step S P lo hi h a) 0
       (λ z. none r (sym (walk-broken S P lo hi h k a z) ∙ e))
@@ -111,7 +112,7 @@ module _ (S P : ℕ → ℕ) (lo hi h : ℕ) where
       (λ b. f n b))
 
   -- a walk that comes back has passed a chain of links
-  pub walk-chain : (k a r : ℕ) → walk S P lo hi h k a ≡ suc r → Passed S P lo hi h a k r
+  pub walk-chain : (k a r : ℕ) → walk S P lo hi h k a ≡ suc r → WalkPassed S P lo hi h a k r
   walk-chain zero a r e = walk-case zero a r e (λ n b. none r (sym (walk-short S P lo hi h a n b) ∙ e))
   walk-chain (suc k) a r e =
       walk-case (suc k) a r e
@@ -127,7 +128,8 @@ module _ (S P : ℕ → ℕ) (lo hi h : ℕ) where
       })
 
   -- and a chain of links is passed
-  pub chain-walk : (k a r : ℕ) (l : List ℕ) → h ≢ 0 → lo ≢ 0 → (lo ≤ h → h < hi → ⊥) → Chain S P a l h → ((y : ℕ) → In y l → (lo ≤ y) × (y < hi))
+  pub chain-walk : (k a r : ℕ) (l : List ℕ) → h ≢ 0 → lo ≢ 0 → (lo ≤ h → h < hi → ⊥) → Chain S P a l h
+      → ((y : ℕ) → In y l → (lo ≤ y) × (y < hi))
       → k ≡ length l + r → walk S P lo hi h k a ≡ suc r
   chain-walk k a r [] h0 l0 out c f q =
       let al : allowed lo hi h (S a) ≡ true = allowed-head lo hi h (S a) (c .next) in

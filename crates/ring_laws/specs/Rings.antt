@@ -7,7 +7,8 @@ use mathlib.Core.Bool.{Bool, true, false}
 use mathlib.Core.List.{List, _∷_}
 use native.Mathlib.Omega.{arith}
 use lib.ListN.{length}
-use Rattle.ring_laws.specs.Lists.{In, without, behind, decide, clash, in-without, without-in, without-none, in-behind, behind-old, behind-new}
+use Rattle.ring_laws.specs.Lists.{In, without, behind, decide, clash, in-without, without-in, without-none, in-behind, behind-old}
+use Rattle.ring_laws.specs.Lists.{behind-new}
 use Rattle.ring_laws.specs.Distinct.{Dist, pigeon}
 use Rattle.ring_laws.specs.Chain.{Chain, next-in, prev-in, Cut, cut-chain, Put, put-chain}
 use Rattle.ring_laws.specs.Unique.{same-chain, suffix, same-end, dist-chain}
@@ -45,7 +46,8 @@ module _ (m : ℕ) (isHead : ℕ → Bool) where
       go n false e = inr (record { some = omega arith; within = l; isn't = e })
 
   -- the lists matter at the heads alone
-  pub rings-cong : (L L′ : ℕ → List ℕ) (S P : ℕ → ℕ) → ((h : ℕ) → Head m isHead h → L h ≡ L′ h) → Rings m isHead L S P → Rings m isHead L′ S P
+  pub rings-cong : (L L′ : ℕ → List ℕ) (S P : ℕ → ℕ) → ((h : ℕ) → Head m isHead h → L h ≡ L′ h) → Rings m isHead L S P
+      → Rings m isHead L′ S P
   rings-cong L L′ S P e r =
       record {
         ring = λ h a. rw (e h a) at (r .ring h a);

@@ -16,7 +16,7 @@ use Rattle.ring_laws.specs.Rings.{Head, Link, apart}
 use Rattle.ring_laws.specs.Judge.{walk, closed, idle}
 use Rattle.ring_laws.specs.Distinct.{Dist, joined, in-left, in-right, in-either, dist-append}
 use Rattle.ring_laws.specs.Busy.{idle-not}
-use Rattle.ring_laws.specs.RingWalk.{Passed, walk-chain, chain-walk}
+use Rattle.ring_laws.specs.RingWalk.{WalkPassed, walk-chain, chain-walk}
 
 -- the n heads from g, and the links lo .. hi - 1
 pub record Layout (m : ℕ) (isHead : ℕ → Bool) (n g lo hi : ℕ) : Type 0 where
@@ -63,7 +63,8 @@ module _ (m : ℕ) (isHead : ℕ → Bool) (S P : ℕ → ℕ) where
       let e : g + 0 ≡ g = omega arith in (
         subst (λ (j : ℕ). Row m isHead S P j l) e (f 0 (omega arith)),
         rows-of ls (suc g)
-            (λ i h. let q : g + suc i ≡ suc g + i = omega arith in subst (λ (j : ℕ). Row m isHead S P j (getD ls i [])) q (f (suc i) (omega arith))),
+            (λ i h. let q : g + suc i ≡ suc g + i = omega arith in subst (λ (j : ℕ). Row m isHead S P j (getD ls i [])) q
+            (f (suc i) (omega arith))),
       )
 
   -- ---- distinct
@@ -77,7 +78,8 @@ module _ (m : ℕ) (isHead : ℕ → Bool) (S P : ℕ → ℕ) where
       let b = suffix S P h k h y (s .chain) j in
       same-end S P y (a .0) (b .0) g h (a .1) (b .1) (λ w. own g l r h (s .head) (a .3 h w)) (λ w. own h k s g (r .head) (b .3 g w))
 
-  no-row : (g h : ℕ) (l : List ℕ) (ls : List (List ℕ)) (y : ℕ) → g < h → Row m isHead S P g l → Rows m isHead S P h ls → In y l → In y (joined ls) → ⊥
+  no-row : (g h : ℕ) (l : List ℕ) (ls : List (List ℕ)) (y : ℕ) → g < h → Row m isHead S P g l → Rows m isHead S P h ls → In y l
+      → In y (joined ls) → ⊥
   no-row g h l [] y b r s i j = j
   no-row g h l (k ∷ ls) y b r s i j =
       ⊎-elim
@@ -140,7 +142,7 @@ module _ (m : ℕ) (isHead : ℕ → Bool) (S P : ℕ → ℕ) (lo hi : ℕ) whe
           → Closed m isHead S P (suc n) g k
       go rec zero q = clash (sym (closed-broken S P lo hi n g k q) ∙ e)
       go rec (suc r) q =
-          let p : Passed S P lo hi g g k r = walk-chain S P lo hi g k g r q in
+          let p : WalkPassed S P lo hi g g k r = walk-chain S P lo hi g k g r q in
           let c : Closed m isHead S P n (suc g) r = rec r (sym (closed-on S P lo hi n g k r q) ∙ e) in
           record {
             lists = p .members ∷ c .lists;

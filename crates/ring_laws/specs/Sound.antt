@@ -27,7 +27,8 @@ sound-unlinked m x t s l =
     let z : 0 < m = omega arith in
     decide (getD t x 0) 0
     (λ e. rw (eq-eqb _ _ e) s)
-    (λ n. rw (ne-eqb _ _ n) (sound-set m _ _ _ (sound-set m _ _ _ (sound-set m _ _ _ (sound-set m _ _ _ s (s .inside _)) (s .inside _)) z) z))
+    (λ n. rw (ne-eqb _ _ n) (sound-set m _ _ _ (sound-set m _ _ _ (sound-set m _ _ _ (sound-set m _ _ _ s (s .inside _)) (s .inside _)) z)
+    z))
 
 pub sound-behind : (m x y : ℕ) (t : List ℕ) → Sound m t → x < m → y < m → Sound m (linkedBehind m x y t)
 unfolding linkedBehind

@@ -10,8 +10,10 @@ use borrow.Author.Tests.{eq-eqb, ne-eqb}
 use Rattle.ring_laws.specs.Lists.{In, without, behind, ahead, decide, below}
 use Rattle.ring_laws.specs.Distinct.{Dist}
 use Rattle.ring_laws.specs.Chain.{Chain, forth, back, prev-in, no-self, behind-ahead}
-use Rattle.ring_laws.specs.Rings.{Head, Link, Rings, apart, kind, rings-cong, on-place, next-on, next-place, prev-place, not-own, rings-dist, rings-apart, rings-few, rings-one, idle-rings, cut-rings, put-rings}
-use Rattle.ring_laws.specs.Table.{Sound, cut, join, joinBefore, unlinked, linkedBehind, linkedBefore, steps, counted, steps-here, steps-on}
+use Rattle.ring_laws.specs.Rings.{Head, Link, Rings, apart, kind, rings-cong, on-place, next-on, next-place, prev-place, not-own}
+use Rattle.ring_laws.specs.Rings.{rings-dist, rings-apart, rings-few, rings-one, idle-rings, cut-rings, put-rings}
+use Rattle.ring_laws.specs.Table.{Sound, cut, join, joinBefore, unlinked, linkedBehind, linkedBefore, steps, counted, steps-here}
+use Rattle.ring_laws.specs.Table.{steps-on}
 use Rattle.ring_laws.specs.Stores.{sucs, pres, suc-at, cut-is, cut-x, join-is, before-is}
 
 pub record Spells (m : ℕ) (isHead : ℕ → Bool) (L : ℕ → List ℕ) (t : List ℕ) : Type 0 where
@@ -34,7 +36,8 @@ chain-steps m t h a [] k c b f le = steps-here t h k (getD t a 0) (sym (suc-at m
 chain-steps m t h a (z ∷ l) zero c b f le = omega arith
 chain-steps m t h a (z ∷ l) (suc k) c b f le =
     let e : getD t a 0 ≡ z = sym (suc-at m t a (b a (inl refl))) ∙ c .0 .next in
-    rw e (steps-on t h k z (λ g. f (inl (sym g))) ∙ ap suc (chain-steps m t h z l k (c .1) (λ y i. b y (inr i)) (λ i. f (inr i)) (omega arith)))
+    rw e (steps-on t h k z (λ g. f (inl (sym g))) ∙ ap suc (chain-steps m t h z l k (c .1) (λ y i. b y (inr i)) (λ i. f (inr i))
+    (omega arith)))
 
 module _ (m : ℕ) (isHead : ℕ → Bool) (L : ℕ → List ℕ) (t : List ℕ) (sp : Spells m isHead L t) where
   abbrev S : ℕ → ℕ
@@ -59,7 +62,8 @@ module _ (m : ℕ) (isHead : ℕ → Bool) (L : ℕ → List ℕ) (t : List ℕ)
 
   pub spells-counted : (h : ℕ) → Head m isHead h → counted m h t ≡ length (L h)
   spells-counted h a =
-      chain-steps m t h h (L h) m (r .ring h a) (λ y i. on-place m isHead L S P r h y a i .1) (not-own m isHead L S P r h a) (spells-few h a)
+      chain-steps m t h h (L h) m (r .ring h a) (λ y i. on-place m isHead L S P r h y a i .1) (not-own m isHead L S P r h a)
+      (spells-few h a)
 
   -- ---- unlinking takes x out of every list
 

@@ -41,7 +41,8 @@ pub table-at : (f : ℕ → ℕ) (p : ℕ) (t : List ℕ) → t ≡ 0 ∷ listed
 table-at f p t e zero a b = absurd (not-suc-le-zero a)
 table-at f p t e (suc i) a b = ap (λ (l : List ℕ). getD l (suc i) 0) e ∙ listed-at f 0 p 1 i (omega arith) ∙ ap f (omega arith)
 
-pub at-table : (f : ℕ → ℕ) (p : ℕ) (t : List ℕ) → length t ≡ p + 1 → getD t 0 0 ≡ 0 → ((y : ℕ) → 0 < y → y ≤ p → getD t y 0 ≡ f y) → t ≡ 0 ∷ listed f 1 p
+pub at-table : (f : ℕ → ℕ) (p : ℕ) (t : List ℕ) → length t ≡ p + 1 → getD t 0 0 ≡ 0 → ((y : ℕ) → 0 < y → y ≤ p → getD t y 0 ≡ f y)
+    → t ≡ 0 ∷ listed f 1 p
 at-table f p t len z g = ext-getD 0 t (0 ∷ listed f 1 p) (omega (arith, length-listed f 1 p)) at
   where
     at : (i : ℕ) → i < length t → getD t i 0 ≡ getD (0 ∷ listed f 1 p) i 0

@@ -17,8 +17,13 @@ pub fn fresh_run(
     positions: &mut [u32],
     accums: &mut [i64],
 ) -> Verdict
-    ensures { λ r. ⌜ record { run = lent (now (links .exit)) (now (axis .exit)) (now (times .exit)) (now (marks .exit)) (now (positions .exit)) (now (accums .exit)); answer = r }
-        ≡ filled (now (sheet .entry)) (lent (now (links .entry)) (now (axis .entry)) (now (times .entry)) (now (marks .entry)) (now (positions .entry)) (now (accums .entry))) ⌝ }
+    ensures { λ r. ⌜ record {
+      run = lent (now (links .exit)) (now (axis .exit)) (now (times .exit)) (now (marks .exit))
+          (now (positions .exit)) (now (accums .exit));
+      answer = r;
+    }
+        ≡ filled (now (sheet .entry)) (lent (now (links .entry)) (now (axis .entry)) (now (times .entry)) (now (marks .entry))
+        (now (positions .entry)) (now (accums .entry))) ⌝ }
 {
     let read = check(sheet);
     match read {

@@ -37,8 +37,14 @@ fn run_accepted(
     trace: &mut [u8],
 ) -> Ran
     requires { ⌜ checked (now sheet) ≡ Accepted header ⌝ }
-    ensures { λ r. ⌜ record { run = lent (now (links .exit)) (now (axis .exit)) (now (times .exit)) (now (marks .exit)) (now (positions .exit)) (now (accums .exit)); trace = now (trace .exit); result = r }
-        ≡ checkedRun (Accepted header) (now (sheet .entry)) (lent (now (links .entry)) (now (axis .entry)) (now (times .entry)) (now (marks .entry)) (now (positions .entry)) (now (accums .entry))) (now (trace .entry)) ⌝ }
+    ensures { λ r. ⌜ record {
+      run = lent (now (links .exit)) (now (axis .exit)) (now (times .exit)) (now (marks .exit))
+          (now (positions .exit)) (now (accums .exit));
+      trace = now (trace .exit);
+      result = r;
+    }
+        ≡ checkedRun (Accepted header) (now (sheet .entry)) (lent (now (links .entry)) (now (axis .entry)) (now (times .entry))
+        (now (marks .entry)) (now (positions .entry)) (now (accums .entry))) (now (trace .entry)) ⌝ }
 {
     let c = header.counts;
     let v = judge_run(
@@ -80,8 +86,14 @@ pub fn run(
     accums: &mut [i64],
     trace: &mut [u8],
 ) -> Ran
-    ensures { λ r. ⌜ record { run = lent (now (links .exit)) (now (axis .exit)) (now (times .exit)) (now (marks .exit)) (now (positions .exit)) (now (accums .exit)); trace = now (trace .exit); result = r }
-        ≡ runOn (now (sheet .entry)) (lent (now (links .entry)) (now (axis .entry)) (now (times .entry)) (now (marks .entry)) (now (positions .entry)) (now (accums .entry))) (now (trace .entry)) ⌝ }
+    ensures { λ r. ⌜ record {
+      run = lent (now (links .exit)) (now (axis .exit)) (now (times .exit)) (now (marks .exit))
+          (now (positions .exit)) (now (accums .exit));
+      trace = now (trace .exit);
+      result = r;
+    }
+        ≡ runOn (now (sheet .entry)) (lent (now (links .entry)) (now (axis .entry)) (now (times .entry)) (now (marks .entry))
+        (now (positions .entry)) (now (accums .entry))) (now (trace .entry)) ⌝ }
 {
     let read = check(sheet);
     match read {

@@ -53,8 +53,13 @@ pub fn fill(
     accums: &mut [i64],
 ) -> Verdict
     requires { ⌜ checked (now sheet) ≡ Accepted header ⌝ }
-    ensures { λ r. ⌜ record { run = lent (now (links .exit)) (now (axis .exit)) (now (times .exit)) (now (marks .exit)) (now (positions .exit)) (now (accums .exit)); answer = r }
-        ≡ filledFor (Accepted header) (now (sheet .entry)) (lent (now (links .entry)) (now (axis .entry)) (now (times .entry)) (now (marks .entry)) (now (positions .entry)) (now (accums .entry))) ⌝ }
+    ensures { λ r. ⌜ record {
+      run = lent (now (links .exit)) (now (axis .exit)) (now (times .exit)) (now (marks .exit))
+          (now (positions .exit)) (now (accums .exit));
+      answer = r;
+    }
+        ≡ filledFor (Accepted header) (now (sheet .entry)) (lent (now (links .entry)) (now (axis .entry)) (now (times .entry))
+        (now (marks .entry)) (now (positions .entry)) (now (accums .entry))) ⌝ }
 {
     let c = header.counts;
     if positions.len() != wide(c.processes) + 1 {

@@ -24,7 +24,8 @@ pub fn judge_run(
     accums: &[i64],
     len: usize,
 ) -> Verdict
-    ensures { λ r. ⌜ r ≡ runJudged c records (lent (now (links .entry)) (now (axis .entry)) (now (times .entry)) (now (marks .entry)) (now (positions .entry)) (now (accums .entry))) len ⌝ }
+    ensures { λ r. ⌜ r ≡ runJudged c records (lent (now (links .entry)) (now (axis .entry)) (now (times .entry)) (now (marks .entry))
+        (now (positions .entry)) (now (accums .entry))) len ⌝ }
 {
     let sized = lengths_fine(c, links, axis, times, marks);
     if !sized {

@@ -1,5 +1,5 @@
--- A turn whose call may be any: a stretch with room for one line, and where that leaves the call, a turn apart. Turns with room for one line
--- come to what one turn comes to, and tell it.
+-- A turn whose call may be any: a stretch with room for one line, and where that leaves the call, a turn apart. Turns with room for one
+-- line come to what one turn comes to, and tell it.
 use Prim.Native.Nat.{ℕ, suc, _+_, _*_, _-_}
 use mathlib.Core.Path.{_≡_, refl, sym, ap, _∙_}
 use mathlib.Core.Bool.{true, false}
@@ -16,7 +16,8 @@ use Rattle.run_laws.specs.declared.Pause.the-variants.{Full as NoRoom, A
 use Rattle.run_laws.specs.declared.Stretch.{Stretch}
 use Rattle.run_laws.specs.declared.Turn.{Turn}
 use Rattle.run_laws.specs.declared.Turn.the-variants.{Finished as AtEnd, Made, Refused as NotMade}
-use Rattle.run_laws.specs.Run.{RunTables, Turned, On, Off, Stepped, stepOn, endsNow, TurnedOn, turnBy, turnOn, RanOn, stoppedOn, turnsOn}
+use Rattle.run_laws.specs.Run.{RunTables, Turned, On, Off, Stepped, stepOn, endsNow, TurnedOn, turnBy, turnOn, RanOn, stoppedOn}
+use Rattle.run_laws.specs.Run.{turnsOn}
 use Rattle.run_laws.specs.Paused.{leftBy, isFull, isDue, Paused}
 
 module _ (c : Counts) (bytes : List ℕ) (n : ℕ) where
@@ -45,7 +46,8 @@ module _ (c : Counts) (bytes : List ℕ) (n : ℕ) where
   -- ---- with no room, nothing is done
 
   none-done : (u : RunTables) (tr : List ℕ)
-      → (turnsOn c bytes (suc n) 0 u tr .run ≡ u) × (turnsOn c bytes (suc n) 0 u tr .trace ≡ tr) × (turnsOn c bytes (suc n) 0 u tr .result .lines ≡ suc n)
+      → (turnsOn c bytes (suc n) 0 u tr .run ≡ u) × (turnsOn c bytes (suc n) 0 u tr .trace ≡ tr)
+      × (turnsOn c bytes (suc n) 0 u tr .result .lines ≡ suc n)
   unfolding turnsOn
   none-done u tr = test (endsNow c (u .model .axis) (u .positions)) (λ e. rw e (refl, refl, refl)) (λ e. rw e (refl, refl, refl))
 
@@ -103,7 +105,8 @@ module _ (c : Counts) (bytes : List ℕ) (n : ℕ) where
     to-whole : turnsOn c bytes n (n + 1 - n) u tr ≡ whole (turnOn c bytes (lineSize * n) u tr)
     to-whole = let z : n + 1 - n ≡ 1 = omega arith in ap (λ (k : ℕ). turnsOn c bytes n k u tr) z ∙ one-turn u tr
 
-    left-is : (k : ℕ) → s .lines + k ≡ n + 1 → (q : Pause) → s .pause ≡ q → leftBy c bytes q (s .lines) k u′ tr′ ≡ whole (turnOn c bytes (lineSize * n) u tr)
+    left-is : (k : ℕ) → s .lines + k ≡ n + 1 → (q : Pause) → s .pause ≡ q
+        → leftBy c bytes q (s .lines) k u′ tr′ ≡ whole (turnOn c bytes (lineSize * n) u tr)
     left-is k e q eq = sym (ap (λ (x : Pause). leftBy c bytes x (s .lines) k u′ tr′) eq) ∙ p .left k e ∙ to-whole
 
     pub any-made : s .pause ≡ NoRoom → record { run = u′; trace = tr′; turn = Made } ≡ turnOn c bytes (lineSize * n) u tr
@@ -111,7 +114,8 @@ module _ (c : Counts) (bytes : List ℕ) (n : ℕ) where
         let l : s .lines ≡ suc n = omega (arith, p .few, p .full (ap isFull e)) in
         tells _ _ (ap (λ (k : ℕ). turnsOn c bytes k 0 u′ tr′) (sym l) ∙ left-is 0 (omega (arith, l)) NoRoom e)
 
-    pub any-refused : (x : Refusal) → s .pause ≡ Stopped x → record { run = u′; trace = tr′; turn = NotMade x } ≡ turnOn c bytes (lineSize * n) u tr
+    pub any-refused : (x : Refusal) → s .pause ≡ Stopped x → record { run = u′; trace = tr′; turn = NotMade x }
+        ≡ turnOn c bytes (lineSize * n) u tr
     any-refused x e =
         let w : stoppedOn (s .lines) (Refused x) u′ tr′ ≡ whole (turnOn c bytes (lineSize * n) u tr) =
         left-is (n + 1 - s .lines) (omega (arith, p .few)) (Stopped x) e in

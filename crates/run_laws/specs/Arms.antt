@@ -15,7 +15,7 @@ use Rattle.model.specs.declared.answer.Answer.{Answer}
 use Rattle.model.specs.declared.answer.Answer.the-variants.{Done}
 use Rattle.model.specs.declared.call.SetCall.{SetCall}
 use Rattle.model.specs.declared.call.SetCall.the-variants.{Out, Follow, Precede, Into, Clear}
-use Rattle.model_laws.specs.Tables.{Tables, After}
+use Rattle.model_laws.specs.Tables.{Tables, After, modelOf}
 use Rattle.model_laws.specs.Now.{timeOf, half}
 use Rattle.simset_laws.specs.Procedures.{emptyOf}
 use Rattle.simset_laws.specs.Calls.{Linked, toldIf, outStep, followStep, precedeStep, intoStep, clearStep}
@@ -36,7 +36,8 @@ use Rattle.run_laws.specs.Run.{resolved, callDue}
 use Rattle.run_laws.specs.Performed.{listEffect, callEffect, effectOf, unlessRefused, branched, performed}
 use Rattle.run_laws.specs.Which as which
 
-direct : (c : Counts) (x y : ℕ) (t : ℤ) (marks : List ℕ) (s : Sqs) → timedStep c false 0 x 0 (pos 0) marks s ≡ timedStep c false 0 x y t marks s
+direct : (c : Counts) (x y : ℕ) (t : ℤ) (marks : List ℕ) (s : Sqs)
+    → timedStep c false 0 x 0 (pos 0) marks s ≡ timedStep c false 0 x y t marks s
 unfolding timedStep activated dueAt
 direct c x y t marks s = refl
 
@@ -46,7 +47,7 @@ delayed c x y t marks s = refl
 
 module _ (c : Counts) (q : Record) (f : ℕ) (links axis times marks : List ℕ) (w : List ℤ) where
   abbrev t : Tables
-  t = record { links = links; axis = axis; times = times; marks = marks }
+  t = modelOf links axis times marks
 
   abbrev x : ℕ
   x = operandWith c links f (q .x)
@@ -64,7 +65,11 @@ module _ (c : Counts) (q : Record) (f : ℕ) (links axis times marks : List ℕ)
   unfolding performed resolved
   by k ek e ee a ea v ev =
       ap (λ (z : Effect). record { tables = a .tables; words = a .words; effect = z }) (ev ∙ ap (unlessRefused (a .answer)) ee)
-      ∙ ap (λ (o : Carried). record { tables = o .tables; words = o .words; effect = unlessRefused (o .answer) (effectOf k q (emptyOf x links)) }) ea
+      ∙ ap (λ (o : Carried). record {
+        tables = o .tables;
+        words = o .words;
+        effect = unlessRefused (o .answer) (effectOf k q (emptyOf x links));
+      }) ea
       ∙ sym (ap (λ (j : Call). let o = carriedOut c j t w in
       record { tables = o .tables; words = o .words; effect = unlessRefused (o .answer) (effectOf j q (emptyOf x links)) }) ek)
 
@@ -74,26 +79,28 @@ module _ (c : Counts) (q : Record) (f : ℕ) (links axis times marks : List ℕ)
   plain n e z k = rw (ne-eqb (q .operation) 12 (λ o. z (sym e ∙ o)))
 
   module _ (n : ℕ) (o : q .operation ≡ n) (z : n ≢ 12) (r : Answer) (v : Effect) where
-    list-by : (k : ListCall) → due ≡ onList k → (b : Tables) → record { tables = b; answer = r } ≡ tablesAfter c k t → v ≡ unlessRefused r (listEffect k)
+    list-by : (k : ListCall) → due ≡ onList k → (b : Tables) → record { tables = b; answer = r } ≡ tablesAfter c k t
+        → v ≡ unlessRefused r (listEffect k)
         → record { tables = b; words = w; effect = v } ≡ performed c q f t w
     unfolding carriedOut
     list-by k ek b ea ev =
         by (onList k) ek (listEffect k) (plain n o z (onList k)) (record { tables = b; words = w; answer = r })
         (ap (λ (a : After Answer). record { tables = a .tables; words = w; answer = a .answer }) ea) v ev
 
-    set-by : (k : SetCall) → due ≡ onList (onSet k) → (l : List ℕ) → Moved (total c + 1) (linksAfter c k links) (record { links = l; answer = r })
-        → v ≡ unlessRefused r Stays → record { tables = record { links = l; axis = axis; times = times; marks = marks }; words = w; effect = v } ≡ performed c q f t w
+    set-by : (k : SetCall) → due ≡ onList (onSet k) → (l : List ℕ)
+        → Moved (total c + 1) (linksAfter c k links) (record { links = l; answer = r })
+        → v ≡ unlessRefused r Stays → record { tables = modelOf l axis times marks; words = w; effect = v } ≡ performed c q f t w
     unfolding tablesAfter
     set-by k ek l m ev =
-        list-by (onSet k) ek (record { links = l; axis = axis; times = times; marks = marks })
-        (ap (λ (b : Linked). record { tables = record { links = b .links; axis = axis; times = times; marks = marks }; answer = b .answer }) (m .is)) ev
+        list-by (onSet k) ek (modelOf l axis times marks)
+        (ap (λ (b : Linked). record { tables = modelOf (b .links) axis times marks; answer = b .answer }) (m .is)) ev
 
   -- ---- the arms
 
   module _ (r : Answer) (v : Effect) where
     module _ (l : List ℕ) (ev : v ≡ unlessRefused r Stays) where
       abbrev Sets : Type 0
-      Sets = record { tables = record { links = l; axis = axis; times = times; marks = marks }; words = w; effect = v } ≡ performed c q f t w
+      Sets = record { tables = modelOf l axis times marks; words = w; effect = v } ≡ performed c q f t w
 
       pub arm-1 : q .operation ≡ 1 → Moved (total c + 1) (outStep c x links) (record { links = l; answer = r }) → Sets
       arm-1 e m = set-by 1 e (λ z. omega arith) r v (Out x) (which.call-1 c links f q e) l m ev
@@ -112,7 +119,7 @@ module _ (c : Counts) (q : Record) (f : ℕ) (links axis times marks : List ℕ)
 
     module _ (a u : List ℕ) (ev : v ≡ unlessRefused r Moves) where
       abbrev Axis : Type 0
-      Axis = record { tables = record { links = links; axis = a; times = u; marks = marks }; words = w; effect = v } ≡ performed c q f t w
+      Axis = record { tables = modelOf links a u marks; words = w; effect = v } ≡ performed c q f t w
 
       pub arm-6 : q .operation ≡ 6 → Answers (half c) (holdStep c (q .t) (sqs axis times)) a u r → Axis
       unfolding tablesAfter
@@ -127,7 +134,7 @@ module _ (c : Counts) (q : Record) (f : ℕ) (links axis times marks : List ℕ)
           (on-sqs (half c) links axis times marks a u r (λ m s. passivateStep c s) k) ev
 
       pub arm-8 : (l : List ℕ) → q .operation ≡ 8 → WaitMade c (waitStep c y links (sqs axis times)) l a u r
-          → record { tables = record { links = l; axis = a; times = u; marks = marks }; words = w; effect = v } ≡ performed c q f t w
+          → record { tables = modelOf l a u marks; words = w; effect = v } ≡ performed c q f t w
       unfolding tablesAfter
       arm-8 l e k =
           list-by 8 e (λ z. omega arith) r v (wait y) (which.call-8 c links f q e) _
@@ -144,38 +151,44 @@ module _ (c : Counts) (q : Record) (f : ℕ) (links axis times marks : List ℕ)
           → Answers (half c) (timedStep c (eqb (q .operation) 11) (q .clause) x y (q .t) marks (sqs axis times)) a u r → Axis
       unfolding tablesAfter
       arm-timed lo hi k =
-          list-by (q .operation) refl (λ z. omega arith) r v (activate (eqb (q .operation) 11) (q .clause) x y (q .t)) (which.call-timed c links f q lo hi) _
+          list-by (q .operation) refl (λ z. omega arith) r v (activate (eqb (q .operation) 11) (q .clause) x y (q .t))
+          (which.call-timed c links f q lo hi) _
           (on-sqs (half c) links axis times marks a u r (λ m s. timedStep c (eqb (q .operation) 11) (q .clause) x y (q .t) m s) k) ev
 
       -- 10 with no clause, which uses neither y nor t
-      pub arm-10 : q .operation ≡ 10 → q .clause ≡ 0 → Answers (half c) (timedStep c false 0 x 0 (pos 0) marks (sqs axis times)) a u r → Axis
+      pub arm-10 : q .operation ≡ 10 → q .clause ≡ 0 → Answers (half c) (timedStep c false 0 x 0 (pos 0) marks (sqs axis times)) a u r
+          → Axis
       arm-10 e z k =
           arm-timed (omega arith) (omega arith)
           (rw (e, z, ← (direct c x y (q .t) marks (sqs axis times))) k)
 
       -- 10 after a delay
-      pub arm-delay : q .operation ≡ 10 → q .clause ≡ 2 → Answers (half c) (timedStep c false 2 x 0 (q .t) marks (sqs axis times)) a u r → Axis
+      pub arm-delay : q .operation ≡ 10 → q .clause ≡ 2 → Answers (half c) (timedStep c false 2 x 0 (q .t) marks (sqs axis times)) a u r
+          → Axis
       arm-delay e z k =
           arm-timed (omega arith) (omega arith)
           (rw (e, z, ← (delayed c x y (q .t) marks (sqs axis times))) k)
 
       -- finish, at position 0
       pub arm-0 : (ms : List ℕ) → q .operation ≡ 0 → FinishMade c (finishStep c marks (sqs axis times)) a u ms r
-          → record { tables = record { links = links; axis = a; times = u; marks = ms }; words = w; effect = v } ≡ performed c q f t w
+          → record { tables = modelOf links a u ms; words = w; effect = v } ≡ performed c q f t w
       unfolding tablesAfter
       arm-0 ms e k =
           list-by 0 e (λ z. omega arith) r v finish (which.call-0 c links f q e) _
           (on-marks c links axis times marks a u ms r (λ n s. finishStep c n s) k) ev
 
-    pub arm-13 : q .operation ≡ 13 → q .x ≤ 64 → (now : ℕ) → now ≡ timeOf (half c) axis times → (u : List ℤ) → record { words = u; answer = r } ≡ updatedIn (q .x) now (q .t) w
+    pub arm-13 : q .operation ≡ 13 → q .x ≤ 64 → (now : ℕ) → now ≡ timeOf (half c) axis times → (u : List ℤ)
+        → record { words = u; answer = r } ≡ updatedIn (q .x) now (q .t) w
         → v ≡ unlessRefused r Stays → record { tables = t; words = u; effect = v } ≡ performed c q f t w
     unfolding carriedOut
     arm-13 e l now i u m ev =
         by (accum (q .x) (q .t)) (which.call-13 c links f q e l) Stays (plain 13 e (λ z. omega arith) (accum (q .x) (q .t)))
         (record { tables = t; words = u; answer = r })
-        (ap (λ (b : Changed). record { tables = t; words = b .words; answer = b .answer }) (m ∙ ap (λ (j : ℕ). updatedIn (q .x) j (q .t) w) i)) v ev
+        (ap (λ (b : Changed). record { tables = t; words = b .words; answer = b .answer })
+        (m ∙ ap (λ (j : ℕ). updatedIn (q .x) j (q .t) w) i)) v ev
 
-  pub arm-12 : q .operation ≡ 12 → (v : Effect) → v ≡ branched c q f links → record { tables = t; words = w; effect = v } ≡ performed c q f t w
+  pub arm-12 : q .operation ≡ 12 → (v : Effect) → v ≡ branched c q f links
+      → record { tables = t; words = w; effect = v } ≡ performed c q f t w
   unfolding carriedOut tablesAfter effectOf
   arm-12 e v ev =
       by (onList (ifEmpty x)) (which.call-12 c links f q e) (if emptyOf x links then Jumps (q .y) else Stays)

@@ -39,7 +39,8 @@ startable h bytes u tr ok short l a t m p w =
 
 -- ---- the local arrays, cut to N = H + P + L and P
 
-module _ (bytes : List ℕ) (h : Header) (ok : checked bytes ≡ Accepted h) (N : ℕ) (eN : N ≡ total (h .counts)) (P : ℕ) (eP : P ≡ h .counts .processes) where
+module _ (bytes : List ℕ) (h : Header) (ok : checked bytes ≡ Accepted h) (N : ℕ) (eN : N ≡ total (h .counts)) (P : ℕ)
+    (eP : P ≡ h .counts .processes) where
   its : Allowed (h .counts)
   its = header-allowed bytes h ok
 

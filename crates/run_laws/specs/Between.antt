@@ -15,7 +15,8 @@ use Rattle.run_laws.specs.Run.{RunTables, RanOn, stoppedOn, turnsOn}
 use Rattle.run_laws.specs.Turning.{Turning, turning-then}
 use Rattle.run_laws.specs.Paused.{leftBy, isFull, isDue, Paused}
 
-module _ (c : Counts) (bytes : List ℕ) (room n : ℕ) (whole : RanOn) (u₀ : RunTables) (tr₀ : List ℕ) (u : RunTables) (tr : List ℕ) (t : Turning c bytes room n whole u₀ tr₀ u tr)
+module _ (c : Counts) (bytes : List ℕ) (room n : ℕ) (whole : RanOn) (u₀ : RunTables) (tr₀ : List ℕ) (u : RunTables) (tr : List ℕ)
+    (t : Turning c bytes room n whole u₀ tr₀ u tr)
     (u′ : RunTables) (tr′ : List ℕ) (s : Stretch) (p : Paused c bytes room n (turnsOn c bytes n (room - n) u tr) tr u′ tr′ s) where
   part-is : turnsOn c bytes n (room - n) u tr ≡ whole
   part-is = t .same (room - n) (omega (arith, t .few))

@@ -42,13 +42,15 @@ pub record Agrees (bytes b : List ℕ) (r : machine.Ran) (o : RanOn) : Type 0 wh
 
 lines-length : (ls : List Line) → length (linesBytes ls) ≡ lineSize * length ls
 lines-length [] = refl
-lines-length (l ∷ ls) = length-append (bytesOf l) (linesBytes ls) ∙ omega (arith, length-line (l .time) (l .process) (l .rec), lines-length ls)
+lines-length (l ∷ ls) = length-append (bytesOf l) (linesBytes ls)
+    ∙ omega (arith, length-line (l .time) (l .process) (l .rec), lines-length ls)
 
 put-first : (b xs : List ℕ) (n : ℕ) → length xs ≡ n → put b 0 xs ≡ xs ++ drop n b
 unfolding put
 put-first b xs n e = let q : 0 + length xs ≡ n = omega arith in ap (λ (k : ℕ). xs ++ drop k b) q
 
-module _ (bytes : List ℕ) (ok : accepted bytes ≡ true) (m : Machine) (u : RunTables) (g : Stands (countsOf bytes) (recordsOf bytes) m u) where
+module _ (bytes : List ℕ) (ok : accepted bytes ≡ true) (m : Machine) (u : RunTables)
+    (g : Stands (countsOf bytes) (recordsOf bytes) m u) where
   abbrev c : Counts
   c = countsOf bytes
 
@@ -80,11 +82,13 @@ module _ (bytes : List ℕ) (ok : accepted bytes ≡ true) (m : Machine) (u : Ru
 
   pub judged-short : (len : ℕ) → len ≤ traceLimit → runJudged c (recordsOf bytes) u len ≡ Fine
   judged-short len l =
-      sym (tables-fine c (recordsOf bytes) u len true lengths refl (c .processes) refl (positions-length c bytes u stood) (words-length c bytes u stood) l Fine Fine tables refl positions)
+      sym (tables-fine c (recordsOf bytes) u len true lengths refl (c .processes) refl (positions-length c bytes u stood)
+      (words-length c bytes u stood) l Fine Fine tables refl positions)
 
   pub judged-long : (len : ℕ) → traceLimit < len → runJudged c (recordsOf bytes) u len ≡ Judged Size
   judged-long len l =
-      sym (trace-size c (recordsOf bytes) u len true lengths refl (c .processes) refl (positions-length c bytes u stood) (words-length c bytes u stood) l)
+      sym (trace-size c (recordsOf bytes) u len true lengths refl (c .processes) refl (positions-length c bytes u stood)
+      (words-length c bytes u stood) l)
 
   -- ---- the call
 

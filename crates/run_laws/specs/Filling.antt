@@ -110,7 +110,8 @@ module _ (bytes : List ℕ) (n : ℕ) (ps : List ℕ) (p : ℕ) (z : Starting by
 -- ---- the call
 
 module _ (bytes : List ℕ) (u : RunTables) (h : Header) where
-  pub fill-positions : (p : ℕ) → p ≡ h .counts .processes → length (u .positions) ≢ p + 1 → record { run = u; answer = Judged Size } ≡ filledFor (Accepted h) bytes u
+  pub fill-positions : (p : ℕ) → p ≡ h .counts .processes → length (u .positions) ≢ p + 1
+      → record { run = u; answer = Judged Size } ≡ filledFor (Accepted h) bytes u
   unfolding sizesFine
   fill-positions p e n = rw (ne-eqb (length (u .positions)) (h .counts .processes + 1) (λ q. n (q ∙ ap (λ (k : ℕ). k + 1) (sym e))))
 
@@ -126,7 +127,8 @@ module _ (bytes : List ℕ) (u : RunTables) (h : Header) where
       allowed : inLimits (h .counts) ≡ true
       allowed =
           let y = checked-yes bytes h ok in
-          subst (λ (k : Counts). inLimits k ≡ true) (sym (ap (λ (k : Header). k .counts) (y .1))) (allowed-limits (countsOf bytes) (allowed-counts bytes (y .0)))
+          subst (λ (k : Counts). inLimits k ≡ true) (sym (ap (λ (k : Header). k .counts) (y .1)))
+          (allowed-limits (countsOf bytes) (allowed-counts bytes (y .0)))
 
       pub starts-inside : headerBytes + 4 * h .counts .processes ≤ length bytes
       starts-inside =
@@ -135,30 +137,38 @@ module _ (bytes : List ℕ) (u : RunTables) (h : Header) where
           omega (arith, exact-length bytes (y .0))
 
       -- by the model's answer
-      model-says : freshed (h .counts) (u .model) ≡ (if lengthsFine (h .counts) (u .model) then record { tables = freshTables (h .counts); answer = Fine } else record { tables = u .model; answer = Judged Size })
+      model-says : freshed (h .counts) (u .model)
+          ≡ (if lengthsFine (h .counts) (u .model)
+          then record { tables = freshTables (h .counts); answer = Fine }
+          else record { tables = u .model; answer = Judged Size })
       unfolding freshed
       model-says = rw allowed
 
-      pub fill-model : (t : Tables) (q : Refusal) (v : Verdict) → v ≡ Judged q → record { tables = t; answer = v } ≡ freshed (h .counts) (u .model)
+      pub fill-model : (t : Tables) (q : Refusal) (v : Verdict) → v ≡ Judged q
+          → record { tables = t; answer = v } ≡ freshed (h .counts) (u .model)
           → record { run = runOf t (u .positions) (u .words); answer = Judged q } ≡ filledFor (Accepted h) bytes u
       unfolding sizesFine
       fill-model t q v ev g =
           let f : record { tables = t; answer = Judged q } ≡ freshed (h .counts) (u .model) =
           sym (ap (λ (w : Verdict). record { tables = t; answer = w }) ev) ∙ g in
           test (lengthsFine (h .counts) (u .model))
-          (λ l. let z : record { tables = t; answer = Judged q } ≡ record { tables = freshTables (h .counts); answer = Fine } = f ∙ model-says ∙ (rw l) in
+          (λ l. let z : record { tables = t; answer = Judged q } ≡ record { tables = freshTables (h .counts); answer = Fine } = f
+          ∙ model-says ∙ (rw l) in
           let w : Judged q ≡ Fine = ap (λ (a : After Verdict). a .answer) z in let y : false ≡ true = cc in clash y)
-          (λ l. let z : record { tables = t; answer = Judged q } ≡ record { tables = u .model; answer = Judged Size } = f ∙ model-says ∙ (rw l) in
+          (λ l. let z : record { tables = t; answer = Judged q } ≡ record { tables = u .model; answer = Judged Size } = f ∙ model-says
+          ∙ (rw l) in
           rw (eq-eqb (length (u .positions)) (h .counts .processes + 1) at, eq-eqb (length (u .words)) runWords nw, l)
           (ap (λ (a : After Verdict). record { run = runOf (a .tables) (u .positions) (u .words); answer = a .answer }) z))
 
-      pub fill-all : (t : Tables) (ps : List ℕ) (w : List ℤ) (v : Verdict) → v ≡ Fine → record { tables = t; answer = v } ≡ freshed (h .counts) (u .model)
+      pub fill-all : (t : Tables) (ps : List ℕ) (w : List ℤ) (v : Verdict) → v ≡ Fine
+          → record { tables = t; answer = v } ≡ freshed (h .counts) (u .model)
           → ps ≡ startsAre (h .counts .processes) bytes → w ≡ replicate (length (u .words)) (pos 0)
           → record { run = runOf t ps w; answer = Fine } ≡ filledFor (Accepted h) bytes u
       unfolding sizesFine freshRun
       fill-all t ps w v ev f eps ew =
           test (lengthsFine (h .counts) (u .model))
-          (λ l. let z : record { tables = t; answer = v } ≡ record { tables = freshTables (h .counts); answer = Fine } = f ∙ model-says ∙ (rw l) in
+          (λ l. let z : record { tables = t; answer = v } ≡ record { tables = freshTables (h .counts); answer = Fine } = f ∙ model-says
+          ∙ (rw l) in
           let y : t ≡ freshTables (h .counts) = ap (λ (a : After Verdict). a .tables) z in
           rw (eq-eqb (length (u .positions)) (h .counts .processes + 1) at, eq-eqb (length (u .words)) runWords nw, l)
           (λ i. record { run = runOf (y i) (eps i) ((ew ∙ ap (λ (n : ℕ). replicate n (pos 0)) nw) i); answer = Fine }))

@@ -58,7 +58,8 @@ zeros-flat (suc n) =
     let e : 3 * suc n ≡ suc (suc (suc (3 * n))) = omega arith in
     ap (λ (k : ℕ). replicate k (pos 0)) e ∙ ap (λ (l : List ℤ). pos 0 ∷ pos 0 ∷ pos 0 ∷ l) (zeros-flat n)
 
-pub fresh-stands : (bytes : List ℕ) → accepted bytes ≡ true → Stands (countsOf bytes) (recordsOf bytes) (fresh (sheetOf bytes)) (freshRun (countsOf bytes) bytes)
+pub fresh-stands : (bytes : List ℕ) → accepted bytes ≡ true
+    → Stands (countsOf bytes) (recordsOf bytes) (fresh (sheetOf bytes)) (freshRun (countsOf bytes) bytes)
 unfolding fresh freshRun sheetOf
 fresh-stands bytes ok =
     let r = accepted-range bytes ok in

@@ -53,7 +53,8 @@ module _ (c : Counts) (bytes : List ℕ) where
       (λ e. rw e (go (stepOn c bytes (lineSize * n) u tr .turned)
       (turns-room (suc n) k (stepOn c bytes (lineSize * n) u tr .run) (stepOn c bytes (lineSize * n) u tr .trace))))
     where
-      go : (d : Turned) → turnsOn c bytes (suc n) k (stepOn c bytes (lineSize * n) u tr .run) (stepOn c bytes (lineSize * n) u tr .trace) .result .lines ≤ suc n + k
+      go : (d : Turned) → turnsOn c bytes (suc n) k (stepOn c bytes (lineSize * n) u tr .run) (stepOn c bytes (lineSize * n) u tr .trace)
+          .result .lines ≤ suc n + k
           → goes c bytes n k (stepOn c bytes (lineSize * n) u tr) d .result .lines ≤ n + suc k
       go (On next) l = omega arith
       go (Off r) l = omega arith

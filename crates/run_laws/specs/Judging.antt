@@ -40,7 +40,11 @@ module _ (c : Counts) (R : ℕ) (u : RunTables) (len : ℕ) (a : Bool) (ea : a �
   module _ (na : not a ≡ false) where
     pub positions-size : (p : ℕ) → p ≡ c .processes → length (u .positions) ≢ p + 1 → Judged Size ≡ runJudged c R u len
     unfolding runJudged
-    positions-size p e n = rw (sym ea ∙ not-false a na, ne-eqb (length (u .positions)) (c .processes + 1) (λ q. n (q ∙ ap (λ (k : ℕ). k + 1) (sym e))))
+    positions-size p e n = rw (
+      sym ea ∙ not-false a na,
+      ne-eqb (length (u .positions)) (c .processes + 1)
+          (λ q. n (q ∙ ap (λ (k : ℕ). k + 1) (sym e))),
+    )
 
     module _ (p : ℕ) (ep : p ≡ c .processes) (np : length (u .positions) ≡ p + 1) where
       at : length (u .positions) ≡ c .processes + 1
@@ -48,28 +52,43 @@ module _ (c : Counts) (R : ℕ) (u : RunTables) (len : ℕ) (a : Bool) (ea : a �
 
       pub words-size : length (u .words) ≢ runWords → Judged Size ≡ runJudged c R u len
       unfolding runJudged
-      words-size n = rw (sym ea ∙ not-false a na, eq-eqb (length (u .positions)) (c .processes + 1) at, ne-eqb (length (u .words)) runWords n)
+      words-size n = rw (
+        sym ea ∙ not-false a na,
+        eq-eqb (length (u .positions)) (c .processes + 1) at,
+        ne-eqb (length (u .words)) runWords n,
+      )
 
       module _ (nw : length (u .words) ≡ runWords) where
         pub trace-size : traceLimit < len → Judged Size ≡ runJudged c R u len
         unfolding runJudged
         trace-size n =
-            rw (sym ea ∙ not-false a na, eq-eqb (length (u .positions)) (c .processes + 1) at, eq-eqb (length (u .words)) runWords nw, lt-leb len traceLimit n)
+            rw (
+              sym ea ∙ not-false a na,
+              eq-eqb (length (u .positions)) (c .processes + 1) at,
+              eq-eqb (length (u .words)) runWords nw,
+              lt-leb len traceLimit n,
+            )
 
         module _ (nt : len ≤ traceLimit) where
           sizes : runJudged c R u len ≡ afterTables (judged c (u .model)) (positionsJudged c R (u .positions))
           unfolding runJudged
-          sizes = rw (sym ea ∙ not-false a na, eq-eqb (length (u .positions)) (c .processes + 1) at, eq-eqb (length (u .words)) runWords nw, le-leb len traceLimit nt)
+          sizes = rw (
+            sym ea ∙ not-false a na,
+            eq-eqb (length (u .positions)) (c .processes + 1) at,
+            eq-eqb (length (u .words)) runWords nw,
+            le-leb len traceLimit nt,
+          )
 
           pub tables-not : (v : Verdict) (q : Refusal) → v ≡ judged c (u .model) → v ≡ Judged q → Judged q ≡ runJudged c R u len
           tables-not v q e f = sym (sizes ∙ ap (λ (w : Verdict). afterTables w (positionsJudged c R (u .positions))) (sym e ∙ f))
 
-          pub tables-fine : (v w : Verdict) → v ≡ judged c (u .model) → v ≡ Fine → w ≡ positionsJudged c R (u .positions) → w ≡ runJudged c R u len
+          pub tables-fine : (v w : Verdict) → v ≡ judged c (u .model) → v ≡ Fine → w ≡ positionsJudged c R (u .positions)
+              → w ≡ runJudged c R u len
           tables-fine v w e f g = g ∙ sym (sizes ∙ ap (λ (x : Verdict). afterTables x (positionsJudged c R (u .positions))) (sym e ∙ f))
 
 -- ---- what fine says
 
-pub record Passed (c : Counts) (R : ℕ) (u : RunTables) (len : ℕ) : Type 0 where
+pub record RunPassed (c : Counts) (R : ℕ) (u : RunTables) (len : ℕ) : Type 0 where
   pub tables : judged c (u .model) ≡ Fine
   pub positions : positionsJudged c R (u .positions) ≡ Fine
   pub words : length (u .words) ≡ runWords
@@ -79,10 +98,11 @@ after-fine : (v w : Verdict) → afterTables v w ≡ Fine → (v ≡ Fine) × (w
 after-fine Fine w e = (refl, e)
 after-fine (Judged r) w e = let y : false ≡ true = cc in clash y
 
-pub judged-fine : (c : Counts) (R : ℕ) (u : RunTables) (len : ℕ) → runJudged c R u len ≡ Fine → Passed c R u len
+pub judged-fine : (c : Counts) (R : ℕ) (u : RunTables) (len : ℕ) → runJudged c R u len ≡ Fine → RunPassed c R u len
 unfolding runJudged
 judged-fine c R u len e =
-    test (lengthsFine c (u .model) && (eqb (length (u .positions)) (c .processes + 1) && (eqb (length (u .words)) runWords && leb len traceLimit)))
+    test (lengthsFine c (u .model) && (eqb (length (u .positions)) (c .processes + 1)
+    && (eqb (length (u .words)) runWords && leb len traceLimit)))
     (λ t.
     let p = both (eqb (length (u .positions)) (c .processes + 1)) _ (both (lengthsFine c (u .model)) _ t .1) in
     let q = both (eqb (length (u .words)) runWords) (leb len traceLimit) (p .1) in
@@ -133,7 +153,8 @@ rest-at : (ps : List ℕ) (R : ℕ) → ((y : ℕ) → getD ps y 0 ≤ R) → (i
 rest-at [] R f i = omega arith
 rest-at (p ∷ ps) R f i = f (suc i)
 
-module _ (bytes : List ℕ) (c : Counts) (ok : accepted bytes ≡ true) (is : c ≡ countsOf bytes) (u : RunTables) (len : ℕ) (p : Passed c (recordsOf bytes) u len) where
+module _ (bytes : List ℕ) (c : Counts) (ok : accepted bytes ≡ true) (is : c ≡ countsOf bytes) (u : RunTables) (len : ℕ)
+    (p : RunPassed c (recordsOf bytes) u len) where
   its-positions : (length (u .positions) ≡ c .processes + 1) × Positions c (recordsOf bytes) (u .positions)
   its-positions = positions-say c (recordsOf bytes) (u .positions) .fine-only (p .positions)
 
@@ -165,9 +186,11 @@ module _ (bytes : List ℕ) (c : Counts) (ok : accepted bytes ≡ true) (is : c 
       }
 
 -- the code's way: the sheet accepted with this header, the run judged fine
-pub fine-standing : (bytes : List ℕ) (h : Header) (u : RunTables) (len : ℕ) → checked bytes ≡ Accepted h → runJudged (h .counts) (h .records) u len ≡ Fine
+pub fine-standing : (bytes : List ℕ) (h : Header) (u : RunTables) (len : ℕ) → checked bytes ≡ Accepted h
+    → runJudged (h .counts) (h .records) u len ≡ Fine
     → Standing (h .counts) bytes u × (len ≤ traceLimit)
 fine-standing bytes h u len e f =
     let y = checked-yes bytes h e in
-    let p : Passed (h .counts) (recordsOf bytes) u len = judged-fine (h .counts) (recordsOf bytes) u len (subst (λ (R : ℕ). runJudged (h .counts) R u len ≡ Fine) (ap (λ (k : Header). k .records) (y .1)) f) in
+    let p : RunPassed (h .counts) (recordsOf bytes) u len = judged-fine (h .counts) (recordsOf bytes) u len
+    (subst (λ (R : ℕ). runJudged (h .counts) R u len ≡ Fine) (ap (λ (k : Header). k .records) (y .1)) f) in
     (passed-standing bytes (h .counts) (y .0) (ap (λ (k : Header). k .counts) (y .1)) u len p, p .short)

@@ -31,7 +31,8 @@ use Rattle.machine.specs.Calls.{ListCall, onSet, hold, passivate, wait, cancel,
 use Rattle.machine.specs.Run.{lineSize}
 use Rattle.run_laws.specs.Fresh.{sizesFine, filledFor, filled}
 use Rattle.run_laws.specs.OnTables.{tablesAfter, Carried, carriedOut}
-use Rattle.run_laws.specs.Run.{RunTables, runOf, runJudged, callDue, Turned, On, Off, turnedOf, Stepped, moved, dueIn, lineIn, stepOn, endsNow, RanOn, stoppedOn, turnsOn, judgedRun, checkedRun, runOn}
+use Rattle.run_laws.specs.Run.{RunTables, runOf, runJudged, callDue, Turned, On, Off, turnedOf, Stepped, moved, dueIn, lineIn, stepOn}
+use Rattle.run_laws.specs.Run.{endsNow, RanOn, stoppedOn, turnsOn, judgedRun, checkedRun, runOn}
 
 -- ---- a call
 
@@ -125,7 +126,8 @@ module _ (c : Counts) (bytes : List ℕ) where
           → (goes 0 k (stepOn c bytes (lineSize * 0) u tr) d .run ≡ u) × (goes 0 k (stepOn c bytes (lineSize * 0) u tr) d .trace ≡ tr)
       go (On next) q a b = absurd (some a)
         where
-          some : turnsOn c bytes 1 k (stepOn c bytes (lineSize * 0) u tr .run) (stepOn c bytes (lineSize * 0) u tr .trace) .result .lines ≡ 0 → ⊥
+          some : turnsOn c bytes 1 k (stepOn c bytes (lineSize * 0) u tr .run) (stepOn c bytes (lineSize * 0) u tr .trace) .result .lines
+              ≡ 0 → ⊥
           some h = omega (arith, h, turns-lines 1 k (stepOn c bytes (lineSize * 0) u tr .run) (stepOn c bytes (lineSize * 0) u tr .trace))
       go (Off s) q a b = step-kept c bytes (lineSize * 0) u tr s q
 

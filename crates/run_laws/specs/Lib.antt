@@ -23,6 +23,7 @@ pub mod Running
 pub mod OneTurn
 pub mod Paused
 pub mod Stretching
+pub mod StretchEnds
 pub mod Between
 pub mod AnyTurn
 pub mod Judging

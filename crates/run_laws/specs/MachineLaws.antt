@@ -50,7 +50,8 @@ module _ (bytes : List ℕ) (is : accepted bytes ≡ true) where
             omega (
               arith,
               R,
-              subst (λ (j : ℕ). getD (sheetOf bytes .starts) j 0 ≡ startAt bytes (suc i)) q (start-listed bytes 0 (suc i) (omega arith) (omega arith)),
+              subst (λ (j : ℕ). getD (sheetOf bytes .starts) j 0 ≡ startAt bytes (suc i)) q
+                  (start-listed bytes 0 (suc i) (omega arith) (omega arith)),
               start-in bytes is (suc i) (omega arith) (omega arith),
             ))
             (λ l. omega (arith, List·getD-eq-default (sheetOf bytes .starts) 0 {n = i} (omega (arith, starts-listed bytes))));

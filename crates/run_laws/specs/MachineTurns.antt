@@ -49,7 +49,7 @@ Spelled c l = (t : Tables) × Spells c l t
 
 -- ---- a call
 
-pub record Performed (c : Counts) (k : Call) (m n : Machine) : Type 0 where
+pub record CallMade (c : Counts) (k : Call) (m n : Machine) : Type 0 where
   pub spelled : Spelled c (n .lists)
   pub notices : Stepwise (placingOf k (m .lists)) (m .lists .notices) (n .lists .notices)
   pub forward : time (m .lists) ≤ time (n .lists)
@@ -58,7 +58,8 @@ pub record Performed (c : Counts) (k : Call) (m n : Machine) : Type 0 where
   pub required : Each (n .triples) (time (n .lists))
 
 -- no call moves a process or adds a triple
-pub perform-sizes : (c : Counts) (k : Call) (m : Machine) → Then (λ n. (n .positions ≡ m .positions) × (length (n .triples) ≡ length (m .triples))) (perform c k m)
+pub perform-sizes : (c : Counts) (k : Call) (m : Machine)
+    → Then (λ n. (n .positions ≡ m .positions) × (length (n .triples) ≡ length (m .triples))) (perform c k m)
 unfolding perform
 perform-sizes c (onList k) m = go (listsAfter c k (m .lists))
   where
@@ -75,7 +76,7 @@ module _ (c : Counts) (a : Allowed c) (m : Machine) (t : Tables) (s : Spells c (
   abbrev l : Lists
   l = m .lists
 
-  perform-laws : (k : Call) → Then (Performed c k m) (perform c k m)
+  perform-laws : (k : Call) → Then (CallMade c k m) (perform c k m)
   unfolding perform updatedAt
   perform-laws (onList k) =
       let f = splits (l .notices) (s .some) in
@@ -85,7 +86,7 @@ module _ (c : Counts) (a : Allowed c) (m : Machine) (t : Tables) (s : Spells c (
       (call-forward c l (f .head) (f .rest) (f .is) (s .in-order) (notice-each c l t s) no-zero k)
     where
       go : (r : Result Lists) → Follows c t r (tablesAfter c k t) → Notices (listPlacing k l) (l .notices) r → Later (time l) r
-          → Then (Performed c (onList k) m) (lifted m r)
+          → Then (CallMade c (onList k) m) (lifted m r)
       go (refused r) f g h = tt
       go (done j) f g h =
           record {
@@ -99,7 +100,7 @@ module _ (c : Counts) (a : Allowed c) (m : Machine) (t : Tables) (s : Spells c (
   perform-laws (accum k d) =
       go (updatedOf (numbered k (m .triples)) (time l) d) (each-kept k (time l) (time l) d (m .triples) (omega arith) q)
     where
-      go : (u : Updated) → Each (listAfter u k (m .triples) .list) (time l) → Then (Performed c (accum k d) m) (storing m k u)
+      go : (u : Updated) → Each (listAfter u k (m .triples) .list) (time l) → Then (CallMade c (accum k d) m) (storing m k u)
       go (To v) g =
           record {
             spelled = (t, s);
@@ -144,19 +145,20 @@ unfolding nextNow
 next-in s r m b =
     test (eqb (recordNow s m) 0)
     (λ z. rw z (omega arith))
-    (λ z. rw z (next-of (headerIs s) (recordOf s (recordNow s m)) _ (r .record-in (recordNow s m) (omega (arith, eqb-false (recordNow s m) 0 z)) b)))
+    (λ z. rw z (next-of (headerIs s) (recordOf s (recordNow s m))
+    _ (r .record-in (recordNow s m) (omega (arith, eqb-false (recordNow s m) 0 z)) b)))
 
 then-so : (P Q : Machine → Type 0) (r : Result Machine) → ((k : Machine) → P k → Q k) → Then P r → Then Q r
 then-so P Q (refused r) f g = tt
 then-so P Q (done k) f g = f k g
 
 module _ (s : Sheet) (r : InRange s) (m : Machine) (g : Going s m) where
-  its-call : Then (Performed (s .counts) (callNow s m) m) (perform (s .counts) (callNow s m) m)
+  its-call : Then (CallMade (s .counts) (callNow s m) m) (perform (s .counts) (callNow s m) m)
   its-call = perform-laws (s .counts) (r .allowed) m (g .spelled .0) (g .spelled .1) (g .required) (callNow s m)
 
   -- what holds at an end and after every call of this kind holds after the turn
   by-call : (Q : Turn → Type 0) → ((e : End) → Q (ended e))
-      → ((k : Machine) → Performed (s .counts) (callNow s m) m k → Q (stepped (lineNow s m) (movedOn s m k)))
+      → ((k : Machine) → CallMade (s .counts) (callNow s m) m k → Q (stepped (lineNow s m) (movedOn s m k)))
       → Q (turn s 1 m)
   by-call Q f h = turn-cases s m Q f (then-so _ _ (perform (s .counts) (callNow s m) m) h its-call)
 

@@ -54,4 +54,6 @@ pub record Carried : Type 0 where
 
 unfoldable pub carriedOut : Counts → Call → Tables → List ℤ → Carried
 carriedOut c (onList k) t w = let a = tablesAfter c k t in record { tables = a .tables; words = w; answer = a .answer }
-carriedOut c (accum k d) t w = let u = updatedIn k (timeOf (half c) (t .axis) (t .times)) d w in record { tables = t; words = u .words; answer = u .answer }
+carriedOut c (accum k d) t w =
+    let u = updatedIn k (timeOf (half c) (t .axis) (t .times)) d w in
+    record { tables = t; words = u .words; answer = u .answer }

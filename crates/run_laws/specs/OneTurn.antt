@@ -16,7 +16,8 @@ use Rattle.machine.specs.declared.End.the-variants.{Finished, Refused as Ended}
 use Rattle.machine.specs.Run.{lineSize}
 use Rattle.run_laws.specs.declared.Turn.{Turn}
 use Rattle.run_laws.specs.declared.Turn.the-variants.{Finished as AtEnd, Made, Refused as NotMade}
-use Rattle.run_laws.specs.Run.{RunTables, runOf, Turned, On, Off, Stepped, recordGot, recordAtNow, stepOn, endsNow, TurnedOn, turnBy, turnOn, RanOn, stoppedOn}
+use Rattle.run_laws.specs.Run.{RunTables, runOf, Turned, On, Off, Stepped, recordGot, recordAtNow, stepOn, endsNow, TurnedOn, turnBy}
+use Rattle.run_laws.specs.Run.{turnOn, RanOn, stoppedOn}
 use Rattle.run_laws.specs.Performed.{Performed, performed, verdictBy, goesTo, turned-to, refused-of}
 use Rattle.run_laws.specs.Tried.{apart}
 use Rattle.run_laws.specs.Needs.{Performable}
@@ -62,7 +63,8 @@ module _ (c : Counts) (bytes : List ℕ) (u : RunTables) (s : Standing c bytes u
       turn-refused x v =
           by-step _ (step-off c bytes i u tr f ef r (at time et .record-is) time (at time et .time-is) p ep x (refused-of (p .effect) x v))
 
-      pub turn-made : Fine ≡ verdictBy (p .effect) → (to next : ℕ) → to ≡ recordGot (c .processes) bytes r .next → next ≡ goesTo (p .effect) to
+      pub turn-made : Fine ≡ verdictBy (p .effect) → (to next : ℕ) → to ≡ recordGot (c .processes) bytes r .next
+          → next ≡ goesTo (p .effect) to
           → (ps tr′ : List ℕ) → Went c f time r i next (u .positions) tr ps tr′
           → record { run = runOf (p .tables) ps (p .words); trace = tr′; turn = Made } ≡ turnOn c bytes i u tr
       turn-made v to next eto en ps tr′ w =
@@ -83,7 +85,8 @@ no-end : (v : Turned) → turnBy v ≡ AtEnd → false ≡ true
 no-end (On next) e = cc
 no-end (Off r) e = cc
 
-module _ (c : Counts) (bytes : List ℕ) (room n : ℕ) (whole : RanOn) (u₀ : RunTables) (tr₀ : List ℕ) (u : RunTables) (tr : List ℕ) (t : Turning c bytes room n whole u₀ tr₀ u tr)
+module _ (c : Counts) (bytes : List ℕ) (room n : ℕ) (whole : RanOn) (u₀ : RunTables) (tr₀ : List ℕ) (u : RunTables) (tr : List ℕ)
+    (t : Turning c bytes room n whole u₀ tr₀ u tr)
     (h : n < room) (o : TurnedOn) (eo : o ≡ turnOn c bytes (lineSize * n) u tr) where
   abbrev ended : Bool
   ended = endsNow c (u .model .axis) (u .positions)
@@ -105,7 +108,8 @@ module _ (c : Counts) (bytes : List ℕ) (room n : ℕ) (whole : RanOn) (u₀ : 
   pub turned-finished : (k : ℕ) → k ≡ n → o .turn ≡ AtEnd → stoppedOn k Finished (o .run) (o .trace) ≡ whole
   turned-finished k ek v =
       test ended
-      (λ e. ap (λ (z : TurnedOn). stoppedOn k Finished (z .run) (z .trace)) (at-end e) ∙ in-finished c bytes room n whole u₀ tr₀ u tr t h k ek e)
+      (λ e. ap (λ (z : TurnedOn). stoppedOn k Finished (z .run) (z .trace)) (at-end e)
+      ∙ in-finished c bytes room n whole u₀ tr₀ u tr t h k ek e)
       (λ e. clash (no-end (s .turned) (sym (turn-at e) ∙ v)))
 
   pub turned-refused : (k : ℕ) → k ≡ n → (x : Refusal) → o .turn ≡ NotMade x → stoppedOn k (Ended x) (o .run) (o .trace) ≡ whole

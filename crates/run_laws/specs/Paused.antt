@@ -29,8 +29,10 @@ isDue Full = false
 isDue Apart = true
 isDue (Stopped r) = false
 
--- with room for so many lines in all, it comes to what was to be done, and ends only for want of room, at a call that is made apart, or at a refusal
-pub record Paused (c : Counts) (bytes : List ℕ) (room n₀ : ℕ) (whole : RanOn) (tr : List ℕ) (u′ : RunTables) (tr′ : List ℕ) (s : Stretch) : Type 0 where
+-- with room for so many lines in all, it comes to what was to be done, and ends only for want of room, at a call that is made apart, or at
+-- a refusal
+pub record Paused (c : Counts) (bytes : List ℕ) (room n₀ : ℕ) (whole : RanOn) (tr : List ℕ) (u′ : RunTables) (tr′ : List ℕ)
+    (s : Stretch) : Type 0 where
   pub stands : (isFull (s .pause) || isDue (s .pause)) ≡ true → Standing c bytes u′
   pub size : length tr′ ≡ length tr
   pub more : n₀ ≤ s .lines

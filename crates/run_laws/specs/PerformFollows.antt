@@ -24,7 +24,8 @@ use Rattle.accum_laws.specs.Update.{updatedOf}
 use Rattle.accum_laws.specs.Flat.{Changed, updatedIn}
 use Rattle.accum_laws.specs.Triples.{flat, numbered, listAfter, updatedAt, flat-updated}
 use Rattle.machine.specs.Machine.{Machine}
-use Rattle.machine.specs.Calls.{ListCall, onSet, hold, passivate, wait, cancel, activate, ifEmpty, finish, Call, onList, accum, listsAfter, lifted, storing, perform}
+use Rattle.machine.specs.Calls.{ListCall, onSet, hold, passivate, wait, cancel, activate, ifEmpty, finish, Call, onList, accum, listsAfter}
+use Rattle.machine.specs.Calls.{lifted, storing, perform}
 use Rattle.run_laws.specs.OnTables.{tablesAfter, Carried, carriedOut}
 use Rattle.run_laws.specs.Resolving.{time-at}
 
@@ -63,11 +64,16 @@ module _ (c : Counts) (m : Machine) (t : Tables) (w : Sized c t) (s : Spells c (
   perform-follows (onList k) = go (listsAfter c k (m .lists)) (lists-follow c (m .lists) t w s k)
     where
       go : (r : Result Lists) → Follows c t r (tablesAfter c k t)
-          → FollowsRun c t words (lifted m r) (record { tables = tablesAfter c k t .tables; words = words; answer = tablesAfter c k t .answer })
+          → FollowsRun c t words (lifted m r) (record {
+            tables = tablesAfter c k t .tables;
+            words = words;
+            answer = tablesAfter c k t .answer;
+          })
       go (refused r) a = (a .0, a .1, refl)
       go (done l) a = (a .0, a .1, refl)
   perform-follows (accum k d) =
-      subst (λ (u : Changed). FollowsRun c t words (storing m k (updatedOf (numbered k (m .triples)) (time (m .lists)) d)) (record { tables = t; words = u .words; answer = u .answer }))
+      subst (λ (u : Changed). FollowsRun c t words (storing m k (updatedOf (numbered k (m .triples)) (time (m .lists)) d))
+      (record { tables = t; words = u .words; answer = u .answer }))
       (sym (ap (λ (now : ℕ). updatedIn k now d words) (time-at c (m .lists) t w s) ∙ flat-updated k (time (m .lists)) d (m .triples)))
       (go (updatedOf (numbered k (m .triples)) (time (m .lists)) d))
     where

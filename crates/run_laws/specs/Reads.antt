@@ -70,7 +70,8 @@ module _ (c : Counts) (links : List ℕ) (f v : ℕ) (z : Resolvable c links f) 
 
       pub operand-first : (r : ℕ) → r ≡ linkOr (c .heads) (getD links h 0) → r ≡ operandWith c links f v
       unfolding operandWith
-      operand-first r is = rw (le-ltb v operandBase (above .0), ne-eqb v operandBase n) (is ∙ ap (λ (j : ℕ). linkOr (c .heads) (getD links j 0)) e)
+      operand-first r is = rw (le-ltb v operandBase (above .0), ne-eqb v operandBase n)
+          (is ∙ ap (λ (j : ℕ). linkOr (c .heads) (getD links j 0)) e)
 
   -- an operand stands for a head only where it is its number
   pub no-head : isOperand c v ≡ true → 0 < f → isHead c v ≡ false → isHead c (operandWith c links f v) ≡ false
@@ -79,7 +80,8 @@ module _ (c : Counts) (links : List ℕ) (f v : ℕ) (z : Resolvable c links f) 
       below (total c) v
       (λ l. decide v operandBase
       (λ z. ap (isHead c) (sym (operand-current z)) ∙ above-heads (c .heads + f) (omega arith))
-      (λ n. ap (isHead c) (sym (operand-first o l n (v - operandBase) refl (linkOr (c .heads) (getD links (v - operandBase) 0)) refl)) ∙ first (getD links (v - operandBase) 0)))
+      (λ n. ap (isHead c) (sym (operand-first o l n (v - operandBase) refl (linkOr (c .heads) (getD links (v - operandBase) 0)) refl))
+      ∙ first (getD links (v - operandBase) 0)))
       (λ l. ap (isHead c) (sym (operand-low l)) ∙ e)
     where
       above-heads : (x : ℕ) → c .heads < x → isHead c x ≡ false

@@ -34,7 +34,8 @@ use Rattle.run_laws.specs.Standing.{Stands, Standing, sized, ready, its-
 abbrev pub bytesOf : Line → List ℕ
 bytesOf l = lineBytes (l .time) (l .process) (l .rec)
 
-module _ (bytes : List ℕ) (ok : accepted bytes ≡ true) (m : Machine) (u : RunTables) (g : Stands (countsOf bytes) (recordsOf bytes) m u) where
+module _ (bytes : List ℕ) (ok : accepted bytes ≡ true) (m : Machine) (u : RunTables)
+    (g : Stands (countsOf bytes) (recordsOf bytes) m u) where
   abbrev c : Counts
   c = countsOf bytes
 
@@ -131,7 +132,8 @@ module _ (bytes : List ℕ) (ok : accepted bytes ≡ true) (m : Machine) (u : Ru
         small : (v R : ℕ) → v ≤ R → R ≤ 2000 → v < operandBase
         small v R a b = omega arith
 
-    pub some-call : callDue (resolved c (u .model .links) (firstOf (half c) (u .model .axis)) q) ≡ callOf q (operandOf l (q .x)) (operandOf l (q .y))
+    pub some-call : callDue (resolved c (u .model .links) (firstOf (half c) (u .model .axis)) q)
+        ≡ callOf q (operandOf l (q .x)) (operandOf l (q .y))
     unfolding callDue resolved callOf
     some-call =
         rw (ne-eqb (q .operation) 0 (λ z. none (q .operation) (ranged .operation-some) z))
@@ -142,7 +144,8 @@ module _ (bytes : List ℕ) (ok : accepted bytes ≡ true) (m : Machine) (u : Ru
 
     -- where 12 is accepted its x is a head, so that both find it empty or neither
     pub some-next : (q .operation ≡ 12 → isHead c (operandOf l (q .x)) ≡ true)
-        → resolved c (u .model .links) (firstOf (half c) (u .model .axis)) q .next ≡ nextOf q (noLinks (membersOf (l .sets) (operandOf l (q .x))))
+        → resolved c (u .model .links) (firstOf (half c) (u .model .axis)) q .next
+        ≡ nextOf q (noLinks (membersOf (l .sets) (operandOf l (q .x))))
     unfolding resolved nextOf
     some-next h =
         decide (q .operation) 12

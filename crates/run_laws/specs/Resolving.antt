@@ -27,8 +27,10 @@ use Rattle.machine.specs.Steps.{firstIn, operandOf}
 use Rattle.run_laws.specs.OnTables.{currentAt, firstAt, operandWith, operandAt}
 
 -- the successor of a head is its first member, none where it has none
-first-of : (m H : ℕ) (sets : List (List ℕ)) (t : List ℕ) → SpellsSets m H sets t → (h : ℕ) → Head m (setHead H) h → procedures.sucOf H h t ≡ firstIn (membersOf sets h)
-first-of m H sets t s h a = go (membersOf sets h) (s .spelled .rings .ring h a) (λ y i. leb-false y H (s .spelled .rings .only h y a i .isn't))
+first-of : (m H : ℕ) (sets : List (List ℕ)) (t : List ℕ) → SpellsSets m H sets t → (h : ℕ) → Head m (setHead H) h
+    → procedures.sucOf H h t ≡ firstIn (membersOf sets h)
+first-of m H sets t s h a = go (membersOf sets h) (s .spelled .rings .ring h a)
+    (λ y i. leb-false y H (s .spelled .rings .only h y a i .isn't))
   where
     go : (l : List ℕ) → Chain (sucs m t) (pres m t) h l h → ((y : ℕ) → In y l → H < y) → procedures.sucOf H h t ≡ firstIn l
     go [] c f = ap (procedures.linkOr H) (sym (suc-at m t h (a .within)) ∙ c .next) ∙ or-none H h (leb-true h H (a .is))
@@ -42,7 +44,8 @@ module _ (c : Counts) (l : Lists) (t : Tables) (w : Sized c t) (s : Spells c l t
   time-at = time-now c l t s
 
   pub first-at : (h : ℕ) → 1 ≤ h → h ≤ c .heads → firstAt c (t .links) h ≡ firstIn (membersOf (l .sets) h)
-  first-at h a b = first-of (total c + 1) (c .heads) (l .sets) (t .links) (s .links) h (set-head (total c + 1) (c .heads) h a b (omega arith))
+  first-at h a b = first-of (total c + 1) (c .heads) (l .sets) (t .links) (s .links) h
+      (set-head (total c + 1) (c .heads) h a b (omega arith))
 
   -- a number below 65,536 stands for itself
   pub operand-plain : (v : ℕ) → v < operandBase → (operandAt c (t .links) (t .axis) v ≡ v) × (operandOf l v ≡ v)

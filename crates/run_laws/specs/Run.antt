@@ -16,7 +16,7 @@ use Rattle.model.specs.declared.answer.Answer.{Answer}
 use Rattle.model.specs.declared.answer.Answer.the-variants.{Done, Linkage, Number, Truth, Refused as NotDone}
 use Rattle.model.specs.declared.verdict.Verdict.{Verdict}
 use Rattle.model.specs.declared.verdict.Verdict.the-variants.{Fine, Refused as Judged}
-use Rattle.model_laws.specs.Tables.{Tables}
+use Rattle.model_laws.specs.Tables.{Tables, modelOf}
 use Rattle.model_laws.specs.Judge.{lengthsFine, judged, positionsJudged}
 use Rattle.model_laws.specs.Now.{half, timeOf, firstOf}
 use Rattle.simset_laws.specs.Procedures.{emptyOf}
@@ -53,7 +53,7 @@ runOf t ps w = record { model = t; positions = ps; words = w }
 -- by the words of the slices that are lent
 abbrev pub lent : List ℕ → List ℕ → List ℕ → List ℕ → List ℕ → List ℤ → RunTables
 lent links axis times marks positions words =
-    runOf (record { links = links; axis = axis; times = times; marks = marks }) positions words
+    runOf (modelOf links axis times marks) positions words
 
 -- ---- refusals 1 and 2
 
@@ -64,7 +64,8 @@ afterTables (Judged r) v = Judged r
 -- "Order: 8, 1, 2": a table of another length and a trace that is too long come before tables or positions that are not as they must be
 unfoldable pub runJudged : Counts → ℕ → RunTables → ℕ → Verdict
 runJudged c R u len =
-    if lengthsFine c (u .model) && (eqb (length (u .positions)) (c .processes + 1) && (eqb (length (u .words)) runWords && leb len traceLimit))
+    if lengthsFine c (u .model)
+    && (eqb (length (u .positions)) (c .processes + 1) && (eqb (length (u .words)) runWords && leb len traceLimit))
     then afterTables (judged c (u .model)) (positionsJudged c R (u .positions))
     else Judged Size
 
@@ -127,7 +128,8 @@ abbrev pub dueIn : Counts → List ℕ → RunTables → Record
 dueIn c bytes u = dueNow c bytes (u .model .links) (u .model .axis) (recordAtNow c u)
 
 abbrev pub lineIn : Counts → RunTables → List ℕ
-lineIn c u = lineBytes (timeOf (half c) (u .model .axis) (u .model .times)) (linkageAt c (firstOf (half c) (u .model .axis))) (recordAtNow c u)
+lineIn c u = lineBytes (timeOf (half c) (u .model .axis) (u .model .times)) (linkageAt c (firstOf (half c) (u .model .axis)))
+    (recordAtNow c u)
 
 unfoldable pub stepOn : Counts → List ℕ → ℕ → RunTables → List ℕ → Stepped
 stepOn c bytes i u tr =

@@ -22,11 +22,13 @@ module _ (bytes : List ℕ) (u : RunTables) (tr : List ℕ) where
         ap (λ (x : Ran). record { run = u; trace = tr; result = x }) f
         ∙ sym (ap (λ (w : Verdict). judgedRun w (h .counts) bytes u tr) (sym ev ∙ e))
 
-    pub run-turns : (o : RanOn) → v ≡ Fine → o ≡ turnsOn (h .counts) bytes 0 (length tr / lineSize) u tr → o ≡ checkedRun (Accepted h) bytes u tr
+    pub run-turns : (o : RanOn) → v ≡ Fine → o ≡ turnsOn (h .counts) bytes 0 (length tr / lineSize) u tr
+        → o ≡ checkedRun (Accepted h) bytes u tr
     run-turns o e f = f ∙ sym (ap (λ (w : Verdict). judgedRun w (h .counts) bytes u tr) (sym ev ∙ e))
 
   module _ (k : Checked) (ek : k ≡ checked bytes) where
-    pub run-8 : (q : Refusal) (r : Ran) → k ≡ NotAccepted q → r ≡ refusedRan q → record { run = u; trace = tr; result = r } ≡ runOn bytes u tr
+    pub run-8 : (q : Refusal) (r : Ran) → k ≡ NotAccepted q → r ≡ refusedRan q
+        → record { run = u; trace = tr; result = r } ≡ runOn bytes u tr
     unfolding runOn
     run-8 q r e f =
         ap (λ (x : Ran). record { run = u; trace = tr; result = x }) f ∙ sym (ap (λ (w : Checked). checkedRun w bytes u tr) (sym ek ∙ e))

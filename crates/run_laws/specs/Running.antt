@@ -28,7 +28,8 @@ pub record Here (c : Counts) (u : RunTables) (f time r : ℕ) : Type 0 where
   pub record-is : r ≡ recordAtNow c u
 
 -- read at the place that is current's
-pub here-at : (c : Counts) (u : RunTables) (f time r : ℕ) → f ≡ firstOf (half c) (u .model .axis) → time ≡ getD (u .model .times) f 0 → r ≡ getD (u .positions) f 0
+pub here-at : (c : Counts) (u : RunTables) (f time r : ℕ) → f ≡ firstOf (half c) (u .model .axis) → time ≡ getD (u .model .times) f 0
+    → r ≡ getD (u .positions) f 0
     → Here c u f time r
 here-at c u f time r e et er =
     record {
@@ -47,17 +48,21 @@ as-positioned u f r e =
     ap (λ (l : List ℕ). runOf (u .model) l (u .words))
     (sym (ap (set (u .positions) f) e ∙ set-getD (u .positions) f 0))
 
-pub here-positioned : (c : Counts) (u : RunTables) (f time r : ℕ) → f ≡ firstOf (half c) (u .model .axis) → time ≡ getD (u .model .times) f 0 → r ≡ getD (u .positions) f 0
+pub here-positioned : (c : Counts) (u : RunTables) (f time r : ℕ) → f ≡ firstOf (half c) (u .model .axis)
+    → time ≡ getD (u .model .times) f 0 → r ≡ getD (u .positions) f 0
     → Here c (positioned u f r) f time r
-here-positioned c u f time r ef et er = subst (λ (v : RunTables). Here c v f time r) (as-positioned u f r er) (here-at c u f time r ef et er)
+here-positioned c u f time r ef et er = subst (λ (v : RunTables). Here c v f time r) (as-positioned u f r er)
+    (here-at c u f time r ef et er)
 
-module _ (c : Counts) (bytes : List ℕ) (room n : ℕ) (whole : RanOn) (u₀ : RunTables) (tr₀ : List ℕ) (u : RunTables) (tr : List ℕ) (t : Turning c bytes room n whole u₀ tr₀ u tr)
+module _ (c : Counts) (bytes : List ℕ) (room n : ℕ) (whole : RanOn) (u₀ : RunTables) (tr₀ : List ℕ) (u : RunTables) (tr : List ℕ)
+    (t : Turning c bytes room n whole u₀ tr₀ u tr)
     (f time r : ℕ) (at : Here c u f time r) where
   pub callable : r ≢ 0 → Performable c bytes (recordOffset (c .processes) r) f time (u .model) (u .words)
   callable = its-step c bytes u (t .stands) f (at .place-is) r (at .record-is) time (at .time-is)
 
   pub ends : (b : Bool) → b ≡ (eqb r 0 && eqb f 1) → b ≡ endsNow c (u .model .axis) (u .positions)
-  ends b = ends-at c (u .model .axis) (u .positions) f (at .place-is) r b (at .record-is ∙ ap (λ (j : ℕ). getD (u .positions) j 0) (sym (at .place-is)))
+  ends b = ends-at c (u .model .axis) (u .positions) f (at .place-is) r b
+      (at .record-is ∙ ap (λ (j : ℕ). getD (u .positions) j 0) (sym (at .place-is)))
 
   module _ (h : n < room) (e : endsNow c (u .model .axis) (u .positions) ≡ false)
       (p : Performed) (ep : p ≡ performed c (recordGot (c .processes) bytes r) f (u .model) (u .words)) where
@@ -93,6 +98,7 @@ module _ (c : Counts) (bytes : List ℕ) (room n : ℕ) (whole : RanOn) (u₀ : 
           let now : f ≡ firstOf (half c) (p .tables .axis) = at .place-is ∙ ap (firstOf (half c)) (sym (k .0)) in
           record {
             place-is = now;
-            time-is = at .time-is ∙ ap (timeOf (half c) (u .model .axis)) (sym (k .1)) ∙ ap (λ (l : List ℕ). timeOf (half c) l (p .tables .times)) (sym (k .0));
+            time-is = at .time-is ∙ ap (timeOf (half c) (u .model .axis)) (sym (k .1))
+                ∙ ap (λ (l : List ℕ). timeOf (half c) l (p .tables .times)) (sym (k .0));
             record-is = moved-on ∙ ap (λ (j : ℕ). getD ps j 0) now;
           }

@@ -25,7 +25,8 @@ use Rattle.simset_laws.specs.Procedures.{followOn, followed, precedeOn, precede
 use Rattle.simset_laws.specs.Calls.{followStep, intoStep}
 use Rattle.simulation_laws.specs.Plain.{dueFor, placed, noEffect, timed}
 use Rattle.simulation_laws.specs.Plain as plain
-use Rattle.simulation_laws.specs.Procedures.{seekFrom, found, dropOn, putOn, heldAt, held, passivated, cancelled, vain, dueAt, placeFor, putByClause, activated}
+use Rattle.simulation_laws.specs.Procedures.{seekFrom, found, dropOn, putOn, heldAt, held, passivated, cancelled, vain, dueAt, placeFor}
+use Rattle.simulation_laws.specs.Procedures.{putByClause, activated}
 use Rattle.simulation_laws.specs.Calls.{holdStep, timedStep}
 use Rattle.machine.specs.Machine.{Machine, fresh}
 use Rattle.machine.specs.Calls.{ListCall, onSet, hold, activate, onList, listsAfter, perform}
@@ -74,10 +75,10 @@ modelAfter (k ∷ ks) r = if going (r .answer) then modelAfter ks (tablesAfter c
 
 -- ---- what is wanted, and what the tables say: the axis from its first notice on, with at most k notices
 
-pub data Want : Type 0 where
-  axis : List Notice → Want
-  number : ℕ → Want
-  outside : ℕ → Want
+pub data Expected : Type 0 where
+  axis : List Notice → Expected
+  number : ℕ → Expected
+  outside : ℕ → Expected
 
 abbrev at : ℕ → ℕ → Notice
 at p t = record { who = p; due = t }
@@ -92,7 +93,7 @@ abbrev noticesFrom : Tables → ℕ → ℕ → List Notice
 noticesFrom t zero p = []
 noticesFrom t (suc k) p = if eqb p 5 then [] else at (1 + p) (getD (t .times) p 0) ∷ noticesFrom t k (nextPlace (t .axis) p)
 
-abbrev machineMeets : Result Machine → Want → Bool
+abbrev machineMeets : Result Machine → Expected → Bool
 machineMeets (refused r) (axis l) = false
 machineMeets (refused r) (number k) = eqb (refusalNumber r) k
 machineMeets (refused r) (outside x) = false
@@ -107,7 +108,7 @@ answerIs (Linkage x) k = false
 answerIs (Number n) k = false
 answerIs (Truth b) k = false
 
-abbrev tablesMeet : After Answer → Want → Bool
+abbrev tablesMeet : After Answer → Expected → Bool
 tablesMeet r (axis ns) = going (r .answer) && same (noticesFrom (r .tables) 5 (nextPlace (r .tables .axis) 5)) ns
 tablesMeet r (number k) = answerIs (r .answer) k
 tablesMeet r (outside x) = going (r .answer) && eqb (getD (r .tables .links) x 0) 0 && eqb (getD (r .tables .links) (6 + x) 0) 0
@@ -116,7 +117,7 @@ tablesMeet r (outside x) = going (r .answer) && eqb (getD (r .tables .links) x 0
 
 pub record Situation : Type 0 where
   pub calls : List ListCall
-  pub want : Want
+  pub want : Expected
 
 abbrev act : ℕ → ℕ → ℤ → ListCall
 act k x t = activate false k x 0 t
@@ -130,7 +131,10 @@ situations =
     ∷ record { calls = act 0 A (pos 0) ∷ []; want = axis (at A 0 ∷ at M 0 ∷ []) }  --  2
     ∷ record { calls = act 2 A (pos 5) ∷ []; want = axis (at M 0 ∷ at A 5 ∷ []) }  --  3
     ∷ record { calls = act 2 A (pos 5) ∷ act 1 B (pos 5) ∷ []; want = axis (at M 0 ∷ at A 5 ∷ at B 5 ∷ []) }  --  4
-    ∷ record { calls = act 2 A (pos 5) ∷ act 1 B (pos 5) ∷ act 3 C (pos 5) ∷ []; want = axis (at M 0 ∷ at C 5 ∷ at A 5 ∷ at B 5 ∷ []) }  --  5
+    ∷ record {
+      calls = act 2 A (pos 5) ∷ act 1 B (pos 5) ∷ act 3 C (pos 5) ∷ [];
+      want = axis (at M 0 ∷ at C 5 ∷ at A 5 ∷ at B 5 ∷ []);
+    }  --  5
     ∷ record {
       calls = act 2 A (pos 5) ∷ act 1 B (pos 5) ∷ act 3 C (pos 5) ∷ hold (pos 5) ∷ [];
       want = axis (at C 5 ∷ at A 5 ∷ at B 5 ∷ at M 5 ∷ []);
@@ -144,7 +148,9 @@ situations =
     ∷ []
 
 unfoldable pub met : Situation → Bool
-unfolding plain.hold dueFor placed noEffect timed freshHeads freshAxis freshTables selfLinked unlinked linkedBehind linkedBefore followOn followed precedeOn preceded followStep intoStep seekFrom found dropOn putOn heldAt held passivated cancelled vain dueAt placeFor putByClause activated holdStep timedStep fresh listsAfter perform tablesAfter
+unfolding plain.hold dueFor placed noEffect timed freshHeads freshAxis freshTables selfLinked unlinked linkedBehind linkedBefore followOn
+    followed precedeOn preceded followStep intoStep seekFrom found dropOn putOn heldAt held passivated cancelled vain dueAt placeFor
+    putByClause activated holdStep timedStep fresh listsAfter perform tablesAfter
 met s =
     machineMeets (machineAfter (s .calls) (done (fresh (record { counts = c; starts = []; records = [] })))) (s .want)
     && tablesMeet (modelAfter (s .calls) (record { tables = freshTables c; answer = Done })) (s .want)

@@ -74,11 +74,13 @@ module _ (c : Counts) (bytes : List ℕ) (u : RunTables) (s : Standing c bytes u
 
     pub its-range : r ≢ 0 → Ranged (record { counts = c; records = recordsOf bytes }) (recordWith (c .processes) bytes r)
     its-range n =
-        subst (λ (k : Counts). Ranged (record { counts = k; records = recordsOf bytes }) (recordWith (k .processes) bytes r)) (sym (s .counts))
+        subst (λ (k : Counts). Ranged (record { counts = k; records = recordsOf bytes }) (recordWith (k .processes) bytes r))
+        (sym (s .counts))
         (record-in bytes (s .ok) r (some n) most)
 
     pub inside : r ≢ 0 → recordOffset (c .processes) r + recordBytes ≤ length bytes
-    inside n = subst (λ (k : Counts). recordOffset (k .processes) r + recordBytes ≤ length bytes) (sym (s .counts)) (record-inside bytes (s .ok) r (some n) most)
+    inside n = subst (λ (k : Counts). recordOffset (k .processes) r + recordBytes ≤ length bytes) (sym (s .counts))
+        (record-inside bytes (s .ok) r (some n) most)
 
   -- ---- at current's place
 

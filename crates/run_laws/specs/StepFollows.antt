@@ -30,7 +30,8 @@ use Rattle.run_laws.specs.OnTables.{Carried, carriedOut}
 use Rattle.run_laws.specs.PerformFollows.{FollowsRun, perform-follows}
 use Rattle.run_laws.specs.MachineTurns.{perform-sizes, next-in, set-in}
 use Rattle.run_laws.specs.MachineLaws.{accepted-range}
-use Rattle.run_laws.specs.Run.{RunTables, runOf, Turned, On, Off, recordGot, resolved, callDue, turnedOf, Stepped, moved, recordAtNow, dueIn, lineIn, stepOn}
+use Rattle.run_laws.specs.Run.{RunTables, runOf, Turned, On, Off, recordGot, resolved, callDue, turnedOf, Stepped, moved, recordAtNow}
+use Rattle.run_laws.specs.Run.{dueIn, lineIn, stepOn}
 use Rattle.run_laws.specs.Standing.{Stands, ready, now-in}
 use Rattle.run_laws.specs.Refine.{bytesOf, stood, fit, current-is, record-is, line-is, listAfter, some-call, some-next}
 
@@ -39,7 +40,8 @@ head-done : (c : Counts) (x : ℕ) (m k : Machine) → perform c (onList (ifEmpt
 unfolding perform listsAfter
 head-done c x m k e = test (isHead c x) (λ h. h) (λ h. let z : refused Operand ≡ done k = rw h at e in let y : false ≡ true = cc in clash y)
 
-module _ (bytes : List ℕ) (ok : accepted bytes ≡ true) (m : Machine) (u : RunTables) (g : Stands (countsOf bytes) (recordsOf bytes) m u) where
+module _ (bytes : List ℕ) (ok : accepted bytes ≡ true) (m : Machine) (u : RunTables)
+    (g : Stands (countsOf bytes) (recordsOf bytes) m u) where
   abbrev c : Counts
   c = countsOf bytes
 
@@ -91,7 +93,8 @@ module _ (bytes : List ℕ) (ok : accepted bytes ≡ true) (m : Machine) (u : Ru
   abbrev pub StepIs : Result Machine → List ℕ → ℕ → Stepped → Type 0
   StepIs (refused q) tr i o = (o .turned ≡ Off q) × (o .run ≡ u) × (o .trace ≡ tr)
   StepIs (done k) tr i o =
-      (o .turned ≡ On (dueIn c bytes u .next)) × Stands c (recordsOf bytes) (movedOn s m k) (o .run) × (o .trace ≡ put tr i (bytesOf (lineNow s m)))
+      (o .turned ≡ On (dueIn c bytes u .next)) × Stands c (recordsOf bytes) (movedOn s m k) (o .run)
+      × (o .trace ≡ put tr i (bytesOf (lineNow s m)))
 
   abbrev f : ℕ
   f = firstOf (half (countsOf bytes)) (u .model .axis)
@@ -110,7 +113,8 @@ module _ (bytes : List ℕ) (ok : accepted bytes ≡ true) (m : Machine) (u : Ru
           no z = omega arith
       go (suc i) a q = ap (λ (j : ℕ). 0 ∷ set (m .positions) j v) (omega arith)
 
-  stands-next : (k : Machine) → perform c (callNow s m) m ≡ done k → (t : Tables) (w : List ℤ) → Spells c (k .lists) t → w ≡ flat (k .triples)
+  stands-next : (k : Machine) → perform c (callNow s m) m ≡ done k → (t : Tables) (w : List ℤ) → Spells c (k .lists) t
+      → w ≡ flat (k .triples)
       → Stands c (recordsOf bytes) (movedOn s m k)
       (runOf t (set (u .positions) f (dueIn c bytes u .next)) w)
   unfolding sheetOf
@@ -119,7 +123,8 @@ module _ (bytes : List ℕ) (ok : accepted bytes ≡ true) (m : Machine) (u : Ru
       subst (Then (λ n. (n .positions ≡ m .positions) × (length (n .triples) ≡ length (m .triples)))) e (perform-sizes c (callNow s m) m) in
       record {
         model = sp;
-        positions = set-is (k .positions) (dueIn c bytes u .next) (z .0) ∙ ap (λ (v : ℕ). 0 ∷ set (k .positions) (current l - main c) v) (next-is k e);
+        positions = set-is (k .positions) (dueIn c bytes u .next) (z .0)
+            ∙ ap (λ (v : ℕ). 0 ∷ set (k .positions) (current l - main c) v) (next-is k e);
         words = ew;
         positions-all = length-set (k .positions) _ _ ∙ ap length (z .0) ∙ g .positions-all;
         positions-in = set-in (k .positions) _ _ (recordsOf bytes) (rw (z .0) (g .positions-in)) in-sheet;
@@ -130,23 +135,28 @@ module _ (bytes : List ℕ) (ok : accepted bytes ≡ true) (m : Machine) (u : Ru
       in-sheet =
           let R : length (s .records) ≡ recordsOf bytes = records-listed bytes in
           subst (λ (n : ℕ). nextNow s m ≤ n) R
-          (next-in s (accepted-range bytes ok) m (subst (λ (n : ℕ). recordNow s m ≤ n) (sym R) (subst (λ (n : ℕ). n ≤ recordsOf bytes) at most)))
+          (next-in s (accepted-range bytes ok) m (subst (λ (n : ℕ). recordNow s m ≤ n) (sym R)
+          (subst (λ (n : ℕ). n ≤ recordsOf bytes) at most)))
 
   pub step-follows : (tr : List ℕ) (i : ℕ) → StepIs (perform c (callNow s m) m) tr i (stepOn c bytes i u tr)
   unfolding stepOn turnedOf
   step-follows tr i =
-      subst (λ (a : Carried). StepIs (perform c (callNow s m) m) tr i (moved (turnedOf (a .answer) (dueIn c bytes u .next)) a (u .positions) f tr i (lineIn c u)))
+      subst (λ (a : Carried). StepIs (perform c (callNow s m) m) tr i
+      (moved (turnedOf (a .answer) (dueIn c bytes u .next)) a (u .positions) f tr i (lineIn c u)))
       (sym (ap (λ (call : Call). carriedOut c call (u .model) (u .words)) call-is ∙ ap (carriedOut c (callNow s m) (u .model)) (g .words)))
       (go (perform c (callNow s m) m) refl (perform-follows c m (u .model) (fit bytes ok m u g) (g .model) (callNow s m)))
     where
-      go : (r : Result Machine) → perform c (callNow s m) m ≡ r → FollowsRun c (u .model) (flat (m .triples)) r (carriedOut c (callNow s m) (u .model) (flat (m .triples)))
+      go : (r : Result Machine) → perform c (callNow s m) m ≡ r
+          → FollowsRun c (u .model) (flat (m .triples)) r (carriedOut c (callNow s m) (u .model) (flat (m .triples)))
           → StepIs r tr i (moved (turnedOf (carriedOut c (callNow s m) (u .model) (flat (m .triples)) .answer) (dueIn c bytes u .next))
           (carriedOut c (callNow s m) (u .model) (flat (m .triples))) (u .positions) f tr i (lineIn c u))
       go (refused q) e w =
-          subst (λ (v : Turned). StepIs (refused q) tr i (moved v (carriedOut c (callNow s m) (u .model) (flat (m .triples))) (u .positions) f tr i (lineIn c u)))
+          subst (λ (v : Turned). StepIs (refused q) tr i (moved v (carriedOut c (callNow s m) (u .model) (flat (m .triples))) (u .positions)
+          f tr i (lineIn c u)))
           (sym (ap (λ (a : Answer). turnedOf a (dueIn c bytes u .next)) (w .0)))
           (refl, (λ j. runOf (w .1 j) (u .positions) ((w .2 ∙ sym (g .words)) j)), refl)
       go (done k) e w =
-          subst (λ (v : Turned). StepIs (done k) tr i (moved v (carriedOut c (callNow s m) (u .model) (flat (m .triples))) (u .positions) f tr i (lineIn c u)))
+          subst (λ (v : Turned). StepIs (done k) tr i (moved v (carriedOut c (callNow s m) (u .model) (flat (m .triples))) (u .positions) f
+          tr i (lineIn c u)))
           (sym (ap (λ (a : Answer). turnedOf a (dueIn c bytes u .next)) (w .0)))
           (refl, stands-next k e _ _ (w .1) (w .2), ap (put tr i) (line-is bytes ok m u g))

@@ -23,7 +23,8 @@ use Rattle.machine.specs.Steps.{nextOf}
 use Rattle.run_laws.specs.OnTables.{tablesAfter, Carried, carriedOut}
 use Rattle.run_laws.specs.declared.Effect.{Effect}
 use Rattle.run_laws.specs.declared.Effect.the-variants.{Stays, Jumps, Moves, Refused, Apart}
-use Rattle.run_laws.specs.Run.{RunTables, runOf, Turned, On, Off, recordGot, resolved, callDue, turnedOf, moved, recordAtNow, dueIn, lineIn, stepOn}
+use Rattle.run_laws.specs.Run.{RunTables, runOf, Turned, On, Off, recordGot, resolved, callDue, turnedOf, moved, recordAtNow, dueIn}
+use Rattle.run_laws.specs.Run.{lineIn, stepOn}
 use Rattle.run_laws.specs.Performed.{callEffect, stays-or-moves, effectOf, unlessRefused, Performed, performed, turnedBy}
 use Rattle.run_laws.specs.Which.{call-12}
 
@@ -87,7 +88,8 @@ still k q none twelve = go
         (λ b. twelve (eqb-true (q .operation) 12 (both (eqb (q .operation) 12) none b .0)))
         (λ b. rw b at e)
 
-    go : (a : Answer) → stayed (unlessRefused a (if eqb (q .operation) 12 && none then Jumps (q .y) else callEffect k)) ≡ true → stayed (callEffect k) ≡ true
+    go : (a : Answer) → stayed (unlessRefused a (if eqb (q .operation) 12 && none then Jumps (q .y) else callEffect k)) ≡ true
+        → stayed (callEffect k) ≡ true
     go Done e = on e
     go (Linkage x) e = on e
     go (Number n) e = on e
@@ -122,28 +124,36 @@ module _
   line-is =
       ap (λ (n : ℕ). lineBytes n (linkageAt c f) r) et
       ∙ ap (λ (n : ℕ). lineBytes (timeOf (half c) (u .model .axis) (u .model .times)) (linkageAt c n) r) ef
-      ∙ ap (λ (n : ℕ). lineBytes (timeOf (half c) (u .model .axis) (u .model .times)) (linkageAt c (firstOf (half c) (u .model .axis))) n) er
+      ∙ ap (λ (n : ℕ). lineBytes (timeOf (half c) (u .model .axis) (u .model .times)) (linkageAt c (firstOf (half c) (u .model .axis))) n)
+      er
 
   abbrev carried : Performed → Carried
   carried o = record { tables = o .tables; words = o .words; answer = a .answer }
 
-  step-is : (v : Turned) → turnedBy (p .effect) (q .next) ≡ v → moved v (carried p) (u .positions) (firstOf (half c) (u .model .axis)) tr i (lineIn c u) ≡ stepOn c bytes i u tr
+  step-is : (v : Turned) → turnedBy (p .effect) (q .next) ≡ v
+      → moved v (carried p) (u .positions) (firstOf (half c) (u .model .axis)) tr i (lineIn c u) ≡ stepOn c bytes i u tr
   unfolding stepOn resolved
   step-is v e =
       ap (λ (x : Turned). moved x (carried p) (u .positions) (firstOf (half c) (u .model .axis)) tr i (lineIn c u))
       (sym e ∙ ap (λ (o : Performed). turnedBy (o .effect) (q .next)) same ∙ sym (turned-is k q none (a .answer)))
-      ∙ ap (λ (o : Performed). moved (turnedOf (a .answer) (nextOf q none)) (carried o) (u .positions) (firstOf (half c) (u .model .axis)) tr i (lineIn c u)) same
+      ∙ ap (λ (o : Performed). moved (turnedOf (a .answer) (nextOf q none)) (carried o) (u .positions) (firstOf (half c) (u .model .axis))
+      tr i (lineIn c u)) same
 
   pub step-off : (x : Refusal) → p .effect ≡ Refused x
       → record { run = runOf (p .tables) (u .positions) (p .words); trace = tr; turned = Off x } ≡ stepOn c bytes i u tr
   step-off x e = step-is (Off x) (ap (λ (v : Effect). turnedBy v (q .next)) e)
 
-  pub step-on : (next : ℕ) → turnedBy (p .effect) (recordGot (c .processes) bytes r .next) ≡ On next → (ps tr′ : List ℕ) → Went c f time r i next (u .positions) tr ps tr′
+  pub step-on : (next : ℕ) → turnedBy (p .effect) (recordGot (c .processes) bytes r .next) ≡ On next → (ps tr′ : List ℕ)
+      → Went c f time r i next (u .positions) tr ps tr′
       → record { run = runOf (p .tables) ps (p .words); trace = tr′; turned = On next } ≡ stepOn c bytes i u tr
   step-on next e ps tr′ g =
       ap (λ (l : List ℕ). record { run = runOf (p .tables) l (p .words); trace = tr′; turned = On next })
       (g .positions ∙ ap (λ (n : ℕ). set (u .positions) n next) ef)
-      ∙ ap (λ (l : List ℕ). record { run = runOf (p .tables) (set (u .positions) (firstOf (half c) (u .model .axis)) next) (p .words); trace = l; turned = On next })
+      ∙ ap (λ (l : List ℕ). record {
+        run = runOf (p .tables) (set (u .positions) (firstOf (half c) (u .model .axis)) next) (p .words);
+        trace = l;
+        turned = On next;
+      })
       (g .trace ∙ ap (put tr i) line-is)
       ∙ step-is (On next) (sym (ap (λ (n : ℕ). turnedBy (p .effect) (recordGot (c .processes) bytes n .next)) er) ∙ e)
 

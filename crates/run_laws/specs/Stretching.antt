@@ -6,7 +6,6 @@ use mathlib.Core.Bool.{true, false, _&&_}
 use mathlib.Core.List.{List}
 use native.Mathlib.Omega.{arith}
 use lib.Dec.{eqb}
-use lib.IntN.{ℤ}
 use lib.ListN.{length, getD, set, length-set}
 use lib.Seq.{set-set}
 use borrow.Author.Tests.{ne-eqb}
@@ -14,7 +13,6 @@ use Rattle.ring_laws.specs.Lists.{clash}
 use Rattle.model.specs.declared.Counts.{Counts}
 use Rattle.model.specs.declared.Refusal.{Refusal}
 use Rattle.model.specs.Counts.{linkageAt}
-use Rattle.model_laws.specs.Tables.{Tables}
 use Rattle.model_laws.specs.Now.{half, firstOf}
 use Rattle.sheet.specs.declared.records.Record.{Record}
 use Rattle.sheet.specs.Sheet.{recordOffset}
@@ -22,33 +20,38 @@ use Rattle.trace.specs.Lines.{put, lineBytes}
 use Rattle.machine.specs.declared.End.the-variants.{Refused as Ended}
 use Rattle.machine.specs.Run.{lineSize, traceLimit}
 use Rattle.run_laws.specs.declared.Effect.the-variants.{Refused}
-use Rattle.run_laws.specs.declared.Pause.the-variants.{Full, Apart, Refused as Stopped}
+use Rattle.run_laws.specs.declared.Pause.the-variants.{Refused as Stopped}
 use Rattle.run_laws.specs.Run.{RunTables, runOf, On, recordGot, endsNow, RanOn, stoppedOn, turnsOn}
 use Rattle.run_laws.specs.Performed.{Performed, performed, turnedBy}
-use Rattle.run_laws.specs.Tried.{apart, tried, isApart, apart-0, made-of, not-apart, left-of}
+use Rattle.run_laws.specs.Tried.{apart, tried, isApart, apart-0, made-of, not-apart}
 use Rattle.run_laws.specs.Paused.{Paused}
 use Rattle.run_laws.specs.Needs.{Performable}
 use Rattle.run_laws.specs.Reads.{got-end}
 use Rattle.run_laws.specs.Standing.{Standing, place-in, positions-length, number-in}
 use Rattle.run_laws.specs.StepIs.{Went, stayed}
 use Rattle.run_laws.specs.Turning.{Turning, turning-start, line-fits, SameLengths, same-lengths}
-use Rattle.run_laws.specs.Running.{Here, positioned, as-positioned, here-positioned, callable, ends, turned-down, goes-on, moved-on, stays-here}
+use Rattle.run_laws.specs.Running.{Here, positioned, as-positioned, here-positioned, callable, ends, turned-down, goes-on, moved-on}
+use Rattle.run_laws.specs.Running.{stays-here}
 
-pub record Stretching (c : Counts) (bytes : List ℕ) (room n₀ : ℕ) (whole : RanOn) (u₀ : RunTables) (tr₀ : List ℕ) (end at f time r : ℕ) (u : RunTables) (tr : List ℕ) : Type 0 where
+pub record Stretching (c : Counts) (bytes : List ℕ) (room n₀ : ℕ) (whole : RanOn) (u₀ : RunTables) (tr₀ : List ℕ) (end at f time r : ℕ)
+    (u : RunTables) (tr : List ℕ) : Type 0 where
   pub turning : Turning c bytes room (at / lineSize) whole u₀ tr₀ (positioned u f r) tr
   pub here : Here c (positioned u f r) f time r
   pub begun : lineSize * n₀ ≤ at
   pub even : at ≡ lineSize * (at / lineSize)
   pub end-is : end ≡ lineSize * room
 
-pub stretching-start : (c : Counts) (bytes : List ℕ) (room n : ℕ) (u : RunTables) (tr : List ℕ) (f time r : ℕ) → Standing c bytes u → length tr ≤ traceLimit
-    → n ≤ room → room ≤ length tr / lineSize → f ≡ firstOf (half c) (u .model .axis) → time ≡ getD (u .model .times) f 0 → r ≡ getD (u .positions) f 0
+pub stretching-start : (c : Counts) (bytes : List ℕ) (room n : ℕ) (u : RunTables) (tr : List ℕ) (f time r : ℕ) → Standing c bytes u
+    → length tr ≤ traceLimit
+    → n ≤ room → room ≤ length tr / lineSize → f ≡ firstOf (half c) (u .model .axis) → time ≡ getD (u .model .times) f 0
+    → r ≡ getD (u .positions) f 0
     → Stretching c bytes room n (turnsOn c bytes n (room - n) u tr) u tr (lineSize * room) (lineSize * n) f time r u tr
 stretching-start c bytes room n u tr f time r s l h g ef et er =
     let z : lineSize * n / lineSize ≡ n = omega arith in
     record {
       turning =
-          subst (λ (v : RunTables). Turning c bytes room (lineSize * n / lineSize) (turnsOn c bytes n (room - n) u tr) u tr v tr) (as-positioned u f r er)
+          subst (λ (v : RunTables). Turning c bytes room (lineSize * n / lineSize) (turnsOn c bytes n (room - n) u tr) u tr v tr)
+          (as-positioned u f r er)
           (subst (λ (j : ℕ). Turning c bytes room j (turnsOn c bytes n (room - n) u tr) u tr u tr) (sym z)
           (turning-start c bytes room n (room - n) u tr s l g (omega arith)));
       here = here-positioned c u f time r ef et er;
@@ -57,7 +60,8 @@ stretching-start c bytes room n u tr f time r s l h g ef et er =
       end-is = refl;
     }
 
-module _ (c : Counts) (bytes : List ℕ) (room n₀ : ℕ) (whole : RanOn) (u₀ : RunTables) (tr₀ : List ℕ) (end at f time r : ℕ) (u : RunTables) (tr : List ℕ)
+module _ (c : Counts) (bytes : List ℕ) (room n₀ : ℕ) (whole : RanOn) (u₀ : RunTables) (tr₀ : List ℕ) (end at f time r : ℕ) (u : RunTables)
+    (tr : List ℕ)
     (s : Stretching c bytes room n₀ whole u₀ tr₀ end at f time r u tr) where
   pub its-call : r ≢ 0 → Performable c bytes (recordOffset (c .processes) r) f time (u .model) (u .words)
   its-call = callable c bytes room (at / lineSize) whole u₀ tr₀ (positioned u f r) tr (s .turning) f time r (s .here)
@@ -97,18 +101,21 @@ module _ (c : Counts) (bytes : List ℕ) (room n₀ : ℕ) (whole : RanOn) (u₀
 
   -- ---- a call that was made here
 
-  module _ (h : at < end) (p : Performed) (is : p ≡ tried c (recordGot (c .processes) bytes r) f (u .model) (u .words)) (m : isApart (p .effect) ≡ false) where
+  module _ (h : at < end) (p : Performed) (is : p ≡ tried c (recordGot (c .processes) bytes r) f (u .model) (u .words))
+      (m : isApart (p .effect) ≡ false) where
     made : p ≡ performed c (recordGot (c .processes) bytes r) f (u .model) (u .words)
     made = made-of c (recordGot (c .processes) bytes r) f (u .model) (u .words) p is m
 
     -- main at position 0 is met apart
     unfinished : endsNow c (u .model .axis) (set (u .positions) f r) ≡ false
     unfinished =
-        sym (ends c bytes room (at / lineSize) whole u₀ tr₀ (positioned u f r) tr (s .turning) f time r (s .here) (eqb r 0 && eqb f 1) refl) ∙ rw (ne-eqb r 0 some) refl
+        sym (ends c bytes room (at / lineSize) whole u₀ tr₀ (positioned u f r) tr (s .turning) f time r (s .here) (eqb r 0 && eqb f 1) refl)
+        ∙ rw (ne-eqb r 0 some) refl
       where
         some : r ≢ 0
         some e =
-            let z = apart-0 (recordGot (c .processes) bytes r) (ap (λ (q : Record). q .operation) (sym (got-end (c .processes) bytes r e))) in
+            let z = apart-0 (recordGot (c .processes) bytes r) (ap (λ (q : Record). q .operation)
+            (sym (got-end (c .processes) bytes r e))) in
             let y : true ≡ false = sym z ∙ not-apart c (recordGot (c .processes) bytes r) f (u .model) (u .words) p is m in
             clash (sym y)
 
@@ -122,12 +129,14 @@ module _ (c : Counts) (bytes : List ℕ) (room n₀ : ℕ) (whole : RanOn) (u₀
           few = omega (arith, s .turning .few);
           left = λ k q.
               ap (λ (l : List ℕ). stoppedOn n (Ended x) (runOf (p .tables) l (p .words)) tr) eps
-              ∙ turned-down c bytes room (at / lineSize) whole u₀ tr₀ (positioned u f r) tr (s .turning) f time r (s .here) (room-left h) unfinished p made n en x e;
+              ∙ turned-down c bytes room (at / lineSize) whole u₀ tr₀ (positioned u f r) tr (s .turning) f time r (s .here) (room-left h)
+              unfinished p made n en x e;
           full = λ z. clash z;
           due = λ z. clash z;
         }
 
-    module _ (next : ℕ) (v : turnedBy (p .effect) (recordGot (c .processes) bytes r .next) ≡ On next) (tr′ : List ℕ) (z : length tr′ ≡ length tr) where
+    module _ (next : ℕ) (v : turnedBy (p .effect) (recordGot (c .processes) bytes r .next) ≡ On next) (tr′ : List ℕ)
+        (z : length tr′ ≡ length tr) where
       abbrev after : List ℕ → RunTables
       after ps = runOf (p .tables) ps (p .words)
 
@@ -138,7 +147,8 @@ module _ (c : Counts) (bytes : List ℕ) (room n₀ : ℕ) (whole : RanOn) (u₀
           → Turning c bytes room ((at + lineSize) / lineSize) whole u₀ tr₀ (after ps) tr′
       turned ps g =
           subst (λ (j : ℕ). Turning c bytes room j whole u₀ tr₀ (after ps) tr′) (sym one-more)
-          (goes-on c bytes room (at / lineSize) whole u₀ tr₀ (positioned u f r) tr (s .turning) f time r (s .here) (room-left h) unfinished p made next v ps tr′ g z)
+          (goes-on c bytes room (at / lineSize) whole u₀ tr₀ (positioned u f r) tr (s .turning) f time r (s .here) (room-left h) unfinished
+          p made next v ps tr′ g z)
 
       -- the process stays current, and its position is kept beside the table
       pub stays : stayed (p .effect) ≡ true → tr′ ≡ put tr at (lineBytes time (linkageAt c f) r)
@@ -147,7 +157,8 @@ module _ (c : Counts) (bytes : List ℕ) (room n₀ : ℕ) (whole : RanOn) (u₀
           record {
             turning = turned (set (u .positions) f next) went;
             here =
-                stays-here c bytes room (at / lineSize) whole u₀ tr₀ (positioned u f r) tr (s .turning) f time r (s .here) (room-left h) unfinished p made next v
+                stays-here c bytes room (at / lineSize) whole u₀ tr₀ (positioned u f r) tr (s .turning) f time r (s .here) (room-left h)
+                unfinished p made next v
                 (set (u .positions) f next) tr′ went st;
             begun = omega (arith, s .begun);
             even = omega (arith, s .even);
@@ -155,7 +166,10 @@ module _ (c : Counts) (bytes : List ℕ) (room n₀ : ℕ) (whole : RanOn) (u₀
           }
         where
           went : Went c f time r (lineSize * (at / lineSize)) next (set (u .positions) f r) tr (set (u .positions) f next) tr′
-          went = record { positions = sym (set-set (u .positions) f r next); trace = w ∙ ap (λ (j : ℕ). put tr j (lineBytes time (linkageAt c f) r)) (s .even) }
+          went = record {
+            positions = sym (set-set (u .positions) f r next);
+            trace = w ∙ ap (λ (j : ℕ). put tr j (lineBytes time (linkageAt c f) r)) (s .even);
+          }
 
       -- another may be current
       module _ (ps : List ℕ) (g : Went c f time r at next (u .positions) tr ps tr′) where
@@ -171,57 +185,17 @@ module _ (c : Counts) (bytes : List ℕ) (room n₀ : ℕ) (whole : RanOn) (u₀
 
         pub next-kept : next ≡ getD ps f 0
         next-kept =
-            moved-on c bytes room (at / lineSize) whole u₀ tr₀ (positioned u f r) tr (s .turning) f time r (s .here) (room-left h) unfinished p made next v ps tr′ went
+            moved-on c bytes room (at / lineSize) whole u₀ tr₀ (positioned u f r) tr (s .turning) f time r (s .here) (room-left h)
+            unfinished p made next v ps tr′ went
 
         pub moves : (f′ time′ r′ : ℕ) → f′ ≡ firstOf (half c) (p .tables .axis) → time′ ≡ getD (p .tables .times) f′ 0 → r′ ≡ getD ps f′ 0
             → Stretching c bytes room n₀ whole u₀ tr₀ end (at + lineSize) f′ time′ r′ (after ps) tr′
         moves f′ time′ r′ ef et er =
             record {
-              turning = subst (λ (x : RunTables). Turning c bytes room ((at + lineSize) / lineSize) whole u₀ tr₀ x tr′) (as-positioned (after ps) f′ r′ er) (turned ps went);
+              turning = subst (λ (x : RunTables). Turning c bytes room ((at + lineSize) / lineSize) whole u₀ tr₀ x tr′)
+                  (as-positioned (after ps) f′ r′ er) (turned ps went);
               here = here-positioned c (after ps) f′ time′ r′ ef et er;
               begun = omega (arith, s .begun);
               even = omega (arith, s .even);
               end-is = s .end-is;
             }
-
-  -- ---- the position goes to the table
-
-  module _ (n : ℕ) (en : n ≡ at / lineSize) where
-    rest-is : (k : ℕ) → n + k ≡ room → turnsOn c bytes n k (positioned u f r) tr ≡ whole
-    rest-is k q = ap (λ (j : ℕ). turnsOn c bytes j k (positioned u f r) tr) en ∙ s .turning .same k (omega arith)
-
-    -- where there is no room for a line
-    pub fills : end ≤ at → (ps : List ℕ) → ps ≡ set (u .positions) f r
-        → Paused c bytes room n₀ whole tr₀ (runOf (u .model) ps (u .words)) tr (record { lines = n; pause = Full })
-    fills l ps eps =
-        subst (λ (l : List ℕ). Paused c bytes room n₀ whole tr₀ (runOf (u .model) l (u .words)) tr (record { lines = n; pause = Full })) (sym eps)
-        (record {
-          stands = λ z. s .turning .stands;
-          size = s .turning .size;
-          more = omega (arith, s .begun, s .even);
-          few = omega (arith, s .turning .few);
-          left = rest-is;
-          full = λ z. omega (arith, s .even, s .end-is);
-          due = λ z. clash z;
-        })
-
-    -- and before a call that is made apart
-    module _ (h : at < end) (p : Performed) (is : p ≡ tried c (recordGot (c .processes) bytes r) f (u .model) (u .words)) (m : isApart (p .effect) ≡ true) where
-      pub waits : (ps : List ℕ) → ps ≡ set (u .positions) f r
-          → Paused c bytes room n₀ whole tr₀ (runOf (p .tables) ps (p .words)) tr (record { lines = n; pause = Apart })
-      waits ps eps =
-          let d = left-of c (recordGot (c .processes) bytes r) f (u .model) (u .words) p is m in
-          let same : positioned u f r ≡ runOf (p .tables) ps (p .words) =
-          ap (λ (t : Tables). runOf t (set (u .positions) f r) (u .words)) (sym (d .1))
-          ∙ ap (λ (w : List ℤ). runOf (p .tables) (set (u .positions) f r) w) (sym (d .2))
-          ∙ ap (λ (l : List ℕ). runOf (p .tables) l (p .words)) (sym eps) in
-          subst (λ (v : RunTables). Paused c bytes room n₀ whole tr₀ v tr (record { lines = n; pause = Apart })) same
-          (record {
-            stands = λ z. s .turning .stands;
-            size = s .turning .size;
-            more = omega (arith, s .begun, s .even);
-            few = omega (arith, s .turning .few);
-            left = rest-is;
-            full = λ z. clash z;
-            due = λ z. (omega (arith, room-left h), ap (λ (j : ℕ). apart (recordGot (c .processes) bytes j)) (sym (s .here .record-is)) ∙ d .0);
-          })

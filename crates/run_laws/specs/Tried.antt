@@ -83,7 +83,8 @@ all-covered : allTo covered lastOperation ≡ true
 unfolding allTo
 all-covered = refl
 
-pub left-apart : (q : Record) (o : ℕ) → o ≡ q .operation → apart q ≡ true → 1 ≤ o → o ≤ lastOperation → o ≢ 2 → o ≢ 3 → o ≢ 5 → o ≢ 7 → o ≢ 9
+pub left-apart : (q : Record) (o : ℕ) → o ≡ q .operation → apart q ≡ true → 1 ≤ o → o ≤ lastOperation → o ≢ 2 → o ≢ 3 → o ≢ 5 → o ≢ 7
+    → o ≢ 9
     → (10 ≤ o) × (o ≤ 11)
 left-apart q o is a lo hi n2 n3 n5 n7 n9 =
     let here-not : madeHere o ≡ false = ap madeHere is ∙ no-here q a in
@@ -122,7 +123,8 @@ module _ (c : Counts) (q : Record) (f : ℕ) (t : Tables) (w : List ℤ) where
   never k none = go
     where
       on : isApart (if eqb (q .operation) 12 && none then Jumps (q .y) else callEffect k) ≡ false
-      on = test (eqb (q .operation) 12 && none) (λ e. rw e refl) (λ e. rw e (stays-or-moves (λ (v : Effect). isApart v ≡ false) refl refl k))
+      on = test (eqb (q .operation) 12 && none) (λ e. rw e refl)
+          (λ e. rw e (stays-or-moves (λ (v : Effect). isApart v ≡ false) refl refl k))
 
       go : (a : Answer) → isApart (unlessRefused a (if eqb (q .operation) 12 && none then Jumps (q .y) else callEffect k)) ≡ false
       go Done = on
@@ -133,7 +135,8 @@ module _ (c : Counts) (q : Record) (f : ℕ) (t : Tables) (w : List ℤ) where
 
   made-here : isApart (performed c q f t w .effect) ≡ false
   unfolding performed
-  made-here = never (callDue (resolved c (t .links) f q)) (emptyOf (resolved c (t .links) f q .x) (t .links)) (carriedOut c (callDue (resolved c (t .links) f q)) t w .answer)
+  made-here = never (callDue (resolved c (t .links) f q)) (emptyOf (resolved c (t .links) f q .x) (t .links))
+      (carriedOut c (callDue (resolved c (t .links) f q)) t w .answer)
 
   module _ (o : Performed) (is : o ≡ tried c q f t w) where
     told : isApart (o .effect) ≡ isApart (tried c q f t w .effect)

@@ -18,7 +18,8 @@ use Rattle.machine.specs.Calls.{perform}
 use Rattle.machine.specs.Steps.{callNow, movedOn}
 use Rattle.machine.specs.Run.{lineSize, traceLimit}
 use Rattle.run_laws.specs.OnTables.{Carried, carriedOut}
-use Rattle.run_laws.specs.Run.{RunTables, Turned, On, Off, Stepped, callDue, turnedOf, moved, dueIn, lineIn, stepOn, endsNow, RanOn, stoppedOn, turnsOn}
+use Rattle.run_laws.specs.Run.{RunTables, Turned, On, Off, Stepped, callDue, turnedOf, moved, dueIn, lineIn, stepOn, endsNow, RanOn}
+use Rattle.run_laws.specs.Run.{stoppedOn, turnsOn}
 use Rattle.run_laws.specs.Standing.{Standing, sized, ready, positions-length, words-length}
 use Rattle.run_laws.specs.StepFollows.{StepIs, step-follows}
 
@@ -27,14 +28,16 @@ use Rattle.run_laws.specs.StepFollows.{StepIs, step-follows}
 module _ (bytes : List ℕ) (u : RunTables) (i : ℕ) (tr : List ℕ) where
   next-standing : (next : ℕ) (s : Standing (countsOf bytes) bytes u) → stepOn (countsOf bytes) bytes i u tr .turned ≡ On next
       → Standing (countsOf bytes) bytes (stepOn (countsOf bytes) bytes i u tr .run)
-  next-standing next s e = go (perform (countsOf bytes) (callNow (sheetOf bytes) (s .machine)) (s .machine)) (step-follows bytes (s .ok) (s .machine) u (s .stands) tr i)
+  next-standing next s e = go (perform (countsOf bytes) (callNow (sheetOf bytes) (s .machine)) (s .machine))
+      (step-follows bytes (s .ok) (s .machine) u (s .stands) tr i)
     where
       go : (r : Result Machine) → StepIs bytes (s .ok) (s .machine) u (s .stands) r tr i (stepOn (countsOf bytes) bytes i u tr)
           → Standing (countsOf bytes) bytes (stepOn (countsOf bytes) bytes i u tr .run)
       go (refused q) w = let z : Off q ≡ On next = sym (w .0) ∙ e in let y : false ≡ true = cc in clash y
       go (done k) w = record { ok = s .ok; counts = refl; machine = movedOn (sheetOf bytes) (s .machine) k; stands = w .1 }
 
-  pub step-standing : (c : Counts) (next : ℕ) → Standing c bytes u → stepOn c bytes i u tr .turned ≡ On next → Standing c bytes (stepOn c bytes i u tr .run)
+  pub step-standing : (c : Counts) (next : ℕ) → Standing c bytes u → stepOn c bytes i u tr .turned ≡ On next
+      → Standing c bytes (stepOn c bytes i u tr .run)
   step-standing c next s =
       subst (λ (k : Counts). Standing k bytes u → stepOn k bytes i u tr .turned ≡ On next → Standing k bytes (stepOn k bytes i u tr .run))
       (sym (s .counts)) (next-standing next) s
@@ -52,7 +55,8 @@ module _ (bytes : List ℕ) (u : RunTables) (i : ℕ) (tr : List ℕ) where
       within = omega (arith, positions-length c bytes u s, ready c bytes u s .first-in)
 
       go : (v : Turned) → moved v a (u .positions) (firstOf (half c) (u .model .axis)) tr i (lineIn c u) .turned ≡ On next
-          → next ≡ getD (moved v a (u .positions) (firstOf (half c) (u .model .axis)) tr i (lineIn c u) .run .positions) (firstOf (half c) (u .model .axis)) 0
+          → next ≡ getD (moved v a (u .positions) (firstOf (half c) (u .model .axis)) tr i (lineIn c u) .run .positions)
+          (firstOf (half c) (u .model .axis)) 0
       go (On n) w = let z : n ≡ next = cc in sym z ∙ sym (getD-set-same (u .positions) (firstOf (half c) (u .model .axis)) n 0 within)
       go (Off q) w = let y : false ≡ true = cc in clash y
 
@@ -81,7 +85,8 @@ same-lengths c bytes u v s w =
 
 -- ---- the loop
 
-pub record Turning (c : Counts) (bytes : List ℕ) (room n : ℕ) (whole : RanOn) (u₀ : RunTables) (tr₀ : List ℕ) (u : RunTables) (tr : List ℕ) : Type 0 where
+pub record Turning (c : Counts) (bytes : List ℕ) (room n : ℕ) (whole : RanOn) (u₀ : RunTables) (tr₀ : List ℕ) (u : RunTables)
+    (tr : List ℕ) : Type 0 where
   pub begun : Standing c bytes u₀
   pub stands : Standing c bytes u
   pub size : length tr ≡ length tr₀
@@ -105,13 +110,15 @@ turning-start c bytes room n j u tr s l h q =
     }
 
 -- turns that go on from where others stopped
-pub turning-then : (c : Counts) (bytes : List ℕ) (room n m : ℕ) (whole part : RanOn) (u₀ : RunTables) (tr₀ : List ℕ) (u : RunTables) (tr : List ℕ) (v : RunTables) (tv : List ℕ)
+pub turning-then : (c : Counts) (bytes : List ℕ) (room n m : ℕ) (whole part : RanOn) (u₀ : RunTables) (tr₀ : List ℕ) (u : RunTables)
+    (tr : List ℕ) (v : RunTables) (tv : List ℕ)
     → Turning c bytes room n whole u₀ tr₀ u tr → part ≡ whole → Standing c bytes v → length tv ≡ length tr → m ≤ room
     → ((k : ℕ) → m + k ≡ room → turnsOn c bytes m k v tv ≡ part) → Turning c bytes room m whole u₀ tr₀ v tv
 turning-then c bytes room n m whole part u₀ tr₀ u tr v tv t e s z l g =
     record { begun = t .begun; stands = s; size = z ∙ t .size; room-in = t .room-in; short = t .short; few = l; same = λ k q. g k q ∙ e }
 
-module _ (c : Counts) (bytes : List ℕ) (room n : ℕ) (whole : RanOn) (u₀ : RunTables) (tr₀ : List ℕ) (u : RunTables) (tr : List ℕ) (t : Turning c bytes room n whole u₀ tr₀ u tr) where
+module _ (c : Counts) (bytes : List ℕ) (room n : ℕ) (whole : RanOn) (u₀ : RunTables) (tr₀ : List ℕ) (u : RunTables) (tr : List ℕ)
+    (t : Turning c bytes room n whole u₀ tr₀ u tr) where
   pub most-lines : n ≤ 4096
   most-lines = omega (arith, t .few, t .room-in, t .short)
 
@@ -152,14 +159,16 @@ module _ (c : Counts) (bytes : List ℕ) (room n : ℕ) (whole : RanOn) (u₀ : 
     goes k p (Off q) = stoppedOn n (Refused q) (p .run) (p .trace)
 
     goes-is : (k : ℕ) (p : Stepped) (v : Turned)
-        → elim v [ On next ↦ turnsOn c bytes (suc n) k (p .run) (p .trace) | Off q ↦ stoppedOn n (Refused q) (p .run) (p .trace) ] ≡ goes k p v
+        → elim v [ On next ↦ turnsOn c bytes (suc n) k (p .run) (p .trace) | Off q ↦ stoppedOn n (Refused q) (p .run) (p .trace) ]
+        ≡ goes k p v
     goes-is k p (On next) = refl
     goes-is k p (Off q) = refl
 
     module _ (f : endsNow c (u .model .axis) (u .positions) ≡ false) (o : Stepped) (e : o ≡ stepOn c bytes (lineSize * n) u tr) where
       by-step : (k : ℕ) → goes k o (o .turned) ≡ turnsOn c bytes n (suc k) u tr
       unfolding turnsOn
-      by-step k = ap (λ (p : Stepped). goes k p (p .turned)) e ∙ sym (rw (f, turnsOn) (goes-is k (stepOn c bytes (lineSize * n) u tr) (stepOn c bytes (lineSize * n) u tr .turned)))
+      by-step k = ap (λ (p : Stepped). goes k p (p .turned)) e
+          ∙ sym (rw (f, turnsOn) (goes-is k (stepOn c bytes (lineSize * n) u tr) (stepOn c bytes (lineSize * n) u tr .turned)))
 
       pub step-refused : (k : ℕ) → k ≡ n → (q : Refusal) → o .turned ≡ Off q → stoppedOn k (Refused q) (o .run) (o .trace) ≡ whole
       step-refused k ek q v =
@@ -168,11 +177,13 @@ module _ (c : Counts) (bytes : List ℕ) (room n : ℕ) (whole : RanOn) (u₀ : 
           ∙ by-step rest
           ∙ t .same (suc rest) one-left
 
-      pub turning-on : (next : ℕ) → o .turned ≡ On next → length (o .trace) ≡ length tr → Turning c bytes room (n + 1) whole u₀ tr₀ (o .run) (o .trace)
+      pub turning-on : (next : ℕ) → o .turned ≡ On next → length (o .trace) ≡ length tr
+          → Turning c bytes room (n + 1) whole u₀ tr₀ (o .run) (o .trace)
       turning-on next v z =
           record {
             begun = t .begun;
-            stands = subst (λ (p : Stepped). Standing c bytes (p .run)) (sym e) (step-standing bytes u (lineSize * n) tr c next (t .stands) (ap (λ (p : Stepped). p .turned) (sym e) ∙ v));
+            stands = subst (λ (p : Stepped). Standing c bytes (p .run)) (sym e)
+                (step-standing bytes u (lineSize * n) tr c next (t .stands) (ap (λ (p : Stepped). p .turned) (sym e) ∙ v));
             size = z ∙ t .size;
             room-in = t .room-in;
             short = t .short;

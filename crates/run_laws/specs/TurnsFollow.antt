@@ -48,18 +48,21 @@ module _ (bytes : List ℕ) (ok : accepted bytes ≡ true) where
     pub trace : o .trace ≡ put tr (lineSize * n) (linesBytes (r .lines))
     pub run : Stands c (recordsOf bytes) (r .machine) (o .run)
 
-  stop : (n : ℕ) (tr : List ℕ) (e : End) (m : Machine) (u : RunTables) → Stands c (recordsOf bytes) m u → TurnsAre n tr (stopped e m) (stoppedOn n e u tr)
+  stop : (n : ℕ) (tr : List ℕ) (e : End) (m : Machine) (u : RunTables) → Stands c (recordsOf bytes) m u
+      → TurnsAre n tr (stopped e m) (stoppedOn n e u tr)
   stop n tr e m u g = record { lines = omega arith; end = refl; trace = sym (put-none tr (lineSize * n)); run = g }
 
   -- one line more
-  also : (n : ℕ) (tr : List ℕ) (l : Line) (r : machine.Ran) (o : RanOn) → lineSize * n + lineSize ≤ length tr → TurnsAre (suc n) (put tr (lineSize * n) (bytesOf l)) r o → TurnsAre n tr (alsoLine l r) o
+  also : (n : ℕ) (tr : List ℕ) (l : Line) (r : machine.Ran) (o : RanOn) → lineSize * n + lineSize ≤ length tr
+      → TurnsAre (suc n) (put tr (lineSize * n) (bytesOf l)) r o → TurnsAre n tr (alsoLine l r) o
   also n tr l r o fit a =
       record {
         lines = omega (arith, a .lines);
         end = a .end;
         trace =
             a .trace
-            ∙ ap (λ (i : ℕ). put (put tr (lineSize * n) (bytesOf l)) i (linesBytes (r .lines))) (omega (arith, length-line (l .time) (l .process) (l .rec)))
+            ∙ ap (λ (i : ℕ). put (put tr (lineSize * n) (bytesOf l)) i (linesBytes (r .lines)))
+            (omega (arith, length-line (l .time) (l .process) (l .rec)))
             ∙ put-put tr (lineSize * n) (bytesOf l) (linesBytes (r .lines)) (omega (arith, length-line (l .time) (l .process) (l .rec)));
         run = a .run;
       }
@@ -74,24 +77,34 @@ module _ (bytes : List ℕ) (ok : accepted bytes ≡ true) where
   turns-are (suc k) n m u tr g fit =
       test (atEnd s m)
       (λ e. rw (ends-is bytes ok m u g ∙ e, e, turns) (stop n tr Finished m u g))
-      (λ e. rw (ends-is bytes ok m u g ∙ e, e, turns) (go (turns-are k (suc n)) (perform c (callNow s m) m) (stepOn c bytes (lineSize * n) u tr) (step-follows bytes ok m u g tr (lineSize * n))))
+      (λ e. rw (ends-is bytes ok m u g ∙ e, e, turns) (go (turns-are k (suc n)) (perform c (callNow s m) m)
+      (stepOn c bytes (lineSize * n) u tr) (step-follows bytes ok m u g tr (lineSize * n))))
     where
       went : Turn → machine.Ran
       went t = elim t [ ended e ↦ stopped e m | stepped l j ↦ alsoLine l (turns s k j) ]
 
       goes : Stepped → RanOn
-      goes o = elim (o .turned) [ On next ↦ turnsOn c bytes (suc n) k (o .run) (o .trace) | Off q ↦ stoppedOn n (Refused q) (o .run) (o .trace) ]
+      goes o = elim (o .turned) [
+        | On next ↦ turnsOn c bytes (suc n) k (o .run) (o .trace)
+        | Off q ↦ stoppedOn n (Refused q) (o .run)
+            (o .trace)
+      ]
 
-      go : ((j : Machine) (v : RunTables) (t : List ℕ) → Stands c (recordsOf bytes) j v → lineSize * (suc n + k) ≤ length t → TurnsAre (suc n) t (turns s k j) (turnsOn c bytes (suc n) k v t))
+      go : ((j : Machine) (v : RunTables) (t : List ℕ) → Stands c (recordsOf bytes) j v → lineSize * (suc n + k) ≤ length t
+          → TurnsAre (suc n) t (turns s k j) (turnsOn c bytes (suc n) k v t))
           → (r : Result Machine) (o : Stepped) → StepIs bytes ok m u g r tr (lineSize * n) o → TurnsAre n tr (went (moving s m r)) (goes o)
       go f (refused q) o w =
           let x : TurnsAre n tr (stopped (Refused q) m) (stoppedOn n (Refused q) (o .run) (o .trace)) =
           subst (λ (t : List ℕ). TurnsAre n tr (stopped (Refused q) m) (stoppedOn n (Refused q) (o .run) t)) (sym (w .2))
-          (subst (λ (v : RunTables). TurnsAre n tr (stopped (Refused q) m) (stoppedOn n (Refused q) v tr)) (sym (w .1)) (stop n tr (Refused q) m u g)) in
+          (subst (λ (v : RunTables). TurnsAre n tr (stopped (Refused q) m) (stoppedOn n (Refused q) v tr)) (sym (w .1))
+          (stop n tr (Refused q) m u g)) in
           rw (w .0) x
       go f (done j) o w =
-          let len : length (put tr (lineSize * n) (bytesOf (lineNow s m))) ≡ length tr = length-put tr (lineSize * n) (bytesOf (lineNow s m)) (omega (arith, length-line (lineNow s m .time) (lineNow s m .process) (lineNow s m .rec))) in
+          let len : length (put tr (lineSize * n) (bytesOf (lineNow s m))) ≡ length tr =
+          length-put tr (lineSize * n) (bytesOf (lineNow s m))
+          (omega (arith, length-line (lineNow s m .time) (lineNow s m .process) (lineNow s m .rec))) in
           let t = put tr (lineSize * n) (bytesOf (lineNow s m)) in
           rw (w .0)
-          (subst (λ (t : List ℕ). TurnsAre n tr (alsoLine (lineNow s m) (turns s k (movedOn s m j))) (turnsOn c bytes (suc n) k (o .run) t)) (sym (w .2))
+          (subst (λ (t : List ℕ). TurnsAre n tr (alsoLine (lineNow s m) (turns s k (movedOn s m j))) (turnsOn c bytes (suc n) k (o .run) t))
+          (sym (w .2))
           (also n tr (lineNow s m) _ _ (omega arith) (f _ (o .run) _ (w .1) (omega arith))))

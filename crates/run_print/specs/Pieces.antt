@@ -19,15 +19,15 @@ use Rattle.run_laws.specs.GoesOn.{run-stands, run-room}
 use Rattle.io.specs.Digits.{Fewest}
 
 -- the tables and the answer
-pub record Left : Type 0 where
+pub record PieceLeft : Type 0 where
   pub run : RunTables
   pub result : Ran
 
-abbrev pub leftOf : RanOn → Left
+abbrev pub leftOf : RanOn → PieceLeft
 leftOf o = record { run = o .run; result = o .result }
 
 -- the call on k bytes of the trace
-unfoldable pub leftBy : List ℕ → RunTables → List ℕ → ℕ → Left
+unfoldable pub leftBy : List ℕ → RunTables → List ℕ → ℕ → PieceLeft
 leftBy bytes u tr k = leftOf (runOn bytes u (take k tr))
 
 pub left-is : (bytes : List ℕ) (u : RunTables) (tr : List ℕ) (k : ℕ) (v : RunTables) (t : List ℕ) (r : Ran)
@@ -35,17 +35,18 @@ pub left-is : (bytes : List ℕ) (u : RunTables) (tr : List ℕ) (k : ℕ) (v : 
 unfolding leftBy
 left-is bytes u tr k v t r e = ap leftOf e
 
-module _ (bytes : List ℕ) (u : RunTables) (tr : List ℕ) (k : ℕ) (v : RunTables) (r : Ran) (e : record { run = v; result = r } ≡ leftBy bytes u tr k) where
+module _ (bytes : List ℕ) (u : RunTables) (tr : List ℕ) (k : ℕ) (v : RunTables) (r : Ran)
+    (e : record { run = v; result = r } ≡ leftBy bytes u tr k) where
   -- the next piece finds tables of a run again
   pub left-stands : (c : Counts) → Standing c bytes u → Standing c bytes v
   unfolding leftBy
-  left-stands c s = subst (Standing c bytes) (sym (ap (λ (l : Left). l .run) e)) (run-stands c bytes u (take k tr) s)
+  left-stands c s = subst (Standing c bytes) (sym (ap (λ (l : PieceLeft). l .run) e)) (run-stands c bytes u (take k tr) s)
 
   -- and its lines stand in the trace
   pub left-room : k ≤ length tr → lineSize * r .lines ≤ length tr
   unfolding leftBy
   left-room h =
-      omega (arith, run-room bytes u (take k tr), ap (λ (l : Left). l .result .lines) e, length-take-le k tr h)
+      omega (arith, run-room bytes u (take k tr), ap (λ (l : PieceLeft). l .result .lines) e, length-take-le k tr h)
 
 -- ---- the record that current is at
 

@@ -27,8 +27,13 @@ pub(crate) fn piece(
     k: usize,
 ) -> Ran
     requires { ⌜ k ≤ length (now trace) ⌝ }
-    ensures { λ r. ⌜ record { run = lent (now (links .exit)) (now (axis .exit)) (now (times .exit)) (now (marks .exit)) (now (positions .exit)) (now (accums .exit)); result = r }
-        ≡ leftBy (now (sheet .entry)) (lent (now (links .entry)) (now (axis .entry)) (now (times .entry)) (now (marks .entry)) (now (positions .entry)) (now (accums .entry))) (now (trace .entry)) k ⌝ }
+    ensures { λ r. ⌜ record {
+      run = lent (now (links .exit)) (now (axis .exit)) (now (times .exit)) (now (marks .exit))
+          (now (positions .exit)) (now (accums .exit));
+      result = r;
+    }
+        ≡ leftBy (now (sheet .entry)) (lent (now (links .entry)) (now (axis .entry)) (now (times .entry)) (now (marks .entry))
+        (now (positions .entry)) (now (accums .entry))) (now (trace .entry)) k ⌝ }
 {
     run(
         sheet,

@@ -166,7 +166,8 @@ fn on_tables(
     accums: &mut [i64],
     trace: &mut [u8],
 )
-    requires { ⌜ Startable header (now sheet) (lent (now links) (now axis) (now times) (now marks) (now positions) (now accums)) (now trace) ⌝ }
+    requires { ⌜ Startable header (now sheet) (lent (now links) (now axis) (now times) (now marks) (now positions) (now accums))
+        (now trace) ⌝ }
     requires { ⌜ traceLimit ≤ length (now trace) ⌝ }
 {
     fresh_run(sheet, links, axis, times, marks, positions, accums);

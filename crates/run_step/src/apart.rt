@@ -1,10 +1,10 @@
 // The calls that are made apart from a stretch of turns: the rarer ones, and finish.
 use crate::arms::cancel_of;
-use crate::arms::clear_of;
-use crate::arms::follow_of;
-use crate::arms::precede_of;
 use crate::arms::timed_of;
 use crate::perform::unless_refused;
+use crate::set_arms::clear_of;
+use crate::set_arms::follow_of;
+use crate::set_arms::precede_of;
 use model::Counts;
 use model::verdict::Verdict;
 use run_laws::Effect;
@@ -18,6 +18,7 @@ ghost use mathlib.Core.Bool.{true};
 ghost use mathlib.Core.List.{List};
 ghost use lib.IntN.{ℤ};
 ghost use Rattle.model_laws.specs.Ready.{Ready};
+ghost use Rattle.model_laws.specs.Tables.{modelOf};
 ghost use Rattle.sheet.specs.Sheet.{recordOffset, recordFrom};
 ghost use Rattle.run_laws.specs.Needs.{Callable};
 ghost use Rattle.run_laws.specs.Run.{recordGot};
@@ -61,10 +62,16 @@ fn apart_at(
     times: &mut [u64],
     marks: &[u8],
 ) -> Effect
-    requires { ⌜ Callable c (now sheet) i f (record { links = now links; axis = now axis; times = now times; marks = now marks }) ⌝ }
+    requires { ⌜ Callable c (now sheet) i f (modelOf (now links) (now axis) (now times) (now marks)) ⌝ }
     requires { ⌜ apart (recordFrom (now sheet) i) ≡ true ⌝ }
-    ensures { λ r. ⌜ ((w : List ℤ) → record { tables = record { links = now (links .exit); axis = now (axis .exit); times = now (times .exit); marks = now (marks .exit) }; words = w; effect = r }
-        ≡ performed c (recordFrom (now (sheet .entry)) i) f (record { links = now (links .entry); axis = now (axis .entry); times = now (times .entry); marks = now (marks .entry) }) w) ⌝ }
+    ensures { λ r. ⌜ ((w : List ℤ) → record {
+      tables = modelOf (now (links .exit)) (now (axis .exit)) (now (times .exit))
+          (now (marks .exit));
+      words = w;
+      effect = r;
+    }
+        ≡ performed c (recordFrom (now (sheet .entry)) i) f (modelOf (now (links .entry)) (now (axis .entry)) (now (times .entry))
+        (now (marks .entry))) w) ⌝ }
 {
     let op = operation_at(sheet, i);
     match op {
@@ -91,11 +98,18 @@ pub fn perform_apart(
     times: &mut [u64],
     marks: &mut [u8],
 ) -> Effect
-    requires { ⌜ (r ≢ 0 → Callable c (now sheet) (recordOffset (c .processes) r) f (record { links = now links; axis = now axis; times = now times; marks = now marks })) ⌝ }
-    requires { ⌜ Ready c (record { links = now links; axis = now axis; times = now times; marks = now marks }) ⌝ }
+    requires { ⌜ (r ≢ 0 → Callable c (now sheet) (recordOffset (c .processes) r) f
+        (modelOf (now links) (now axis) (now times) (now marks))) ⌝ }
+    requires { ⌜ Ready c (modelOf (now links) (now axis) (now times) (now marks)) ⌝ }
     requires { ⌜ apart (recordGot (c .processes) (now sheet) r) ≡ true ⌝ }
-    ensures { λ v. ⌜ ((w : List ℤ) → record { tables = record { links = now (links .exit); axis = now (axis .exit); times = now (times .exit); marks = now (marks .exit) }; words = w; effect = v }
-        ≡ performed c (recordGot (c .processes) (now (sheet .entry)) r) f (record { links = now (links .entry); axis = now (axis .entry); times = now (times .entry); marks = now (marks .entry) }) w) ⌝ }
+    ensures { λ v. ⌜ ((w : List ℤ) → record {
+      tables = modelOf (now (links .exit)) (now (axis .exit)) (now (times .exit))
+          (now (marks .exit));
+      words = w;
+      effect = v;
+    }
+        ≡ performed c (recordGot (c .processes) (now (sheet .entry)) r) f
+        (modelOf (now (links .entry)) (now (axis .entry)) (now (times .entry)) (now (marks .entry))) w) ⌝ }
 {
     if r == 0 {
         return unless_refused(finish(c, axis, times, marks), Effect::Moves);

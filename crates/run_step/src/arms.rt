@@ -1,4 +1,5 @@
-// The calls of a record whose bytes begin at i, one for each operation that reads operands: an operand is resolved where its call uses it.
+// The sequencing calls and accum of a record whose bytes begin at i, one for each operation that reads operands: an operand is resolved
+// where its call uses it.
 use crate::reading::x_of;
 use crate::reading::y_of;
 use accum_update::flat::update_in;
@@ -7,11 +8,6 @@ use model::answer::Answer;
 use sheet::records::clause_at;
 use sheet::records::t_at;
 use sheet::records::x_at;
-use simset::steps::clear;
-use simset::steps::follow;
-use simset::steps::into;
-use simset::steps::out;
-use simset::steps::precede;
 use simulation::soon::activate_after;
 use simulation::soon::activate_now;
 use simulation::steps::activate;
@@ -23,10 +19,8 @@ ghost use mathlib.Core.Bool.{false};
 ghost use Prim.Native.Nat.{_+_, _*_, _≤_};
 ghost use lib.IntN.{pos};
 ghost use lib.ListN.{length};
-ghost use Rattle.model.specs.Counts.{total, limit};
+ghost use Rattle.model.specs.Counts.{limit};
 ghost use Rattle.model_laws.specs.Now.{half};
-ghost use Rattle.simset_laws.specs.Calls.{outStep, followStep, precedeStep, intoStep, clearStep};
-ghost use Rattle.simset_laws.specs.Promise.{Moved};
 ghost use Rattle.simulation_laws.specs.Calls.{holdStep, cancelStep, timedStep, waitStep};
 ghost use Rattle.simulation_laws.specs.Promise.{sqs, Answers, Judged, Takeable, Noticed};
 ghost use Rattle.simulation_laws.specs.StepPromise.{WaitMade};
@@ -34,52 +28,6 @@ ghost use Rattle.accum_laws.specs.Flat.{updatedIn};
 ghost use Rattle.sheet.specs.Sheet.{recordFrom, recordBytes};
 ghost use Rattle.run_laws.specs.OnTables.{operandWith};
 ghost use Rattle.run_laws.specs.Needs.{Readable};
-
-pub(crate) fn out_of(c: Counts, sheet: &[u8], i: usize, links: &mut [u32], f: u32) -> Answer
-    requires { ⌜ Readable c (now sheet) i (now links) f (recordFrom (now sheet) i .x) ⌝ }
-    ensures { λ r. ⌜ Moved (total c + 1) (outStep c (operandWith c (now (links .entry)) f (recordFrom (now (sheet .entry)) i .x)) (now (links .entry))) (record { links = now (links .exit); answer = r }) ⌝ }
-{
-    let x = x_of(c, sheet, i, links, f);
-    out(c, links, x)
-}
-
-pub(crate) fn follow_of(c: Counts, sheet: &[u8], i: usize, links: &mut [u32], f: u32) -> Answer
-    requires { ⌜ Readable c (now sheet) i (now links) f (recordFrom (now sheet) i .x) ⌝ }
-    requires { ⌜ Readable c (now sheet) i (now links) f (recordFrom (now sheet) i .y) ⌝ }
-    ensures { λ r. ⌜ Moved (total c + 1) (followStep c (operandWith c (now (links .entry)) f (recordFrom (now (sheet .entry)) i .x)) (operandWith c (now (links .entry)) f (recordFrom (now (sheet .entry)) i .y)) (now (links .entry))) (record { links = now (links .exit); answer = r }) ⌝ }
-{
-    let x = x_of(c, sheet, i, links, f);
-    let y = y_of(c, sheet, i, links, f);
-    follow(c, links, x, y)
-}
-
-pub(crate) fn precede_of(c: Counts, sheet: &[u8], i: usize, links: &mut [u32], f: u32) -> Answer
-    requires { ⌜ Readable c (now sheet) i (now links) f (recordFrom (now sheet) i .x) ⌝ }
-    requires { ⌜ Readable c (now sheet) i (now links) f (recordFrom (now sheet) i .y) ⌝ }
-    ensures { λ r. ⌜ Moved (total c + 1) (precedeStep c (operandWith c (now (links .entry)) f (recordFrom (now (sheet .entry)) i .x)) (operandWith c (now (links .entry)) f (recordFrom (now (sheet .entry)) i .y)) (now (links .entry))) (record { links = now (links .exit); answer = r }) ⌝ }
-{
-    let x = x_of(c, sheet, i, links, f);
-    let y = y_of(c, sheet, i, links, f);
-    precede(c, links, x, y)
-}
-
-pub(crate) fn into_of(c: Counts, sheet: &[u8], i: usize, links: &mut [u32], f: u32) -> Answer
-    requires { ⌜ Readable c (now sheet) i (now links) f (recordFrom (now sheet) i .x) ⌝ }
-    requires { ⌜ Readable c (now sheet) i (now links) f (recordFrom (now sheet) i .y) ⌝ }
-    ensures { λ r. ⌜ Moved (total c + 1) (intoStep c (operandWith c (now (links .entry)) f (recordFrom (now (sheet .entry)) i .x)) (operandWith c (now (links .entry)) f (recordFrom (now (sheet .entry)) i .y)) (now (links .entry))) (record { links = now (links .exit); answer = r }) ⌝ }
-{
-    let x = x_of(c, sheet, i, links, f);
-    let y = y_of(c, sheet, i, links, f);
-    into(c, links, x, y)
-}
-
-pub(crate) fn clear_of(c: Counts, sheet: &[u8], i: usize, links: &mut [u32], f: u32) -> Answer
-    requires { ⌜ Readable c (now sheet) i (now links) f (recordFrom (now sheet) i .x) ⌝ }
-    ensures { λ r. ⌜ Moved (total c + 1) (clearStep c (operandWith c (now (links .entry)) f (recordFrom (now (sheet .entry)) i .x)) (now (links .entry))) (record { links = now (links .exit); answer = r }) ⌝ }
-{
-    let x = x_of(c, sheet, i, links, f);
-    clear(c, links, x)
-}
 
 pub(crate) fn hold_of(
     c: Counts,
@@ -93,7 +41,8 @@ pub(crate) fn hold_of(
     requires { ⌜ i + recordBytes ≤ length (now sheet) ⌝ }
     requires { ⌜ Takeable c (now axis) (now times) ⌝ }
     requires { ⌜ Noticed (half c) f time (now axis) (now times) ⌝ }
-    ensures { λ r. ⌜ Answers (half c) (holdStep c (recordFrom (now (sheet .entry)) i .t) (sqs (now (axis .entry)) (now (times .entry)))) (now (axis .exit)) (now (times .exit)) r ⌝ }
+    ensures { λ r. ⌜ Answers (half c) (holdStep c (recordFrom (now (sheet .entry)) i .t) (sqs (now (axis .entry)) (now (times .entry))))
+        (now (axis .exit)) (now (times .exit)) r ⌝ }
 {
     let t = t_at(sheet, i);
     hold_now(c, axis, times, f, time, t)
@@ -110,7 +59,9 @@ pub(crate) fn wait_of(
 ) -> Answer
     requires { ⌜ Readable c (now sheet) i (now links) f (recordFrom (now sheet) i .y) ⌝ }
     requires { ⌜ Takeable c (now axis) (now times) ⌝ }
-    ensures { λ r. ⌜ WaitMade c (waitStep c (operandWith c (now (links .entry)) f (recordFrom (now (sheet .entry)) i .y)) (now (links .entry)) (sqs (now (axis .entry)) (now (times .entry)))) (now (links .exit)) (now (axis .exit)) (now (times .exit)) r ⌝ }
+    ensures { λ r. ⌜ WaitMade c (waitStep c (operandWith c (now (links .entry)) f (recordFrom (now (sheet .entry)) i .y))
+        (now (links .entry)) (sqs (now (axis .entry)) (now (times .entry)))) (now (links .exit)) (now (axis .exit)) (now (times .exit))
+        r ⌝ }
 {
     let y = y_of(c, sheet, i, links, f);
     wait(c, links, axis, times, y)
@@ -127,7 +78,8 @@ pub(crate) fn cancel_of(
 ) -> Answer
     requires { ⌜ Readable c (now sheet) i (now links) f (recordFrom (now sheet) i .x) ⌝ }
     requires { ⌜ Judged c (now axis) ⌝ }
-    ensures { λ r. ⌜ Answers (half c) (cancelStep c (operandWith c (now (links .entry)) f (recordFrom (now (sheet .entry)) i .x)) (sqs (now (axis .entry)) (now (times .entry)))) (now (axis .exit)) (now (times .exit)) r ⌝ }
+    ensures { λ r. ⌜ Answers (half c) (cancelStep c (operandWith c (now (links .entry)) f (recordFrom (now (sheet .entry)) i .x))
+        (sqs (now (axis .entry)) (now (times .entry)))) (now (axis .exit)) (now (times .exit)) r ⌝ }
 {
     let x = x_of(c, sheet, i, links, f);
     cancel(c, axis, times, x)
@@ -154,7 +106,8 @@ pub(crate) fn direct_of(
     requires { ⌜ Readable c (now sheet) i (now links) f (recordFrom (now sheet) i .x) ⌝ }
     requires { ⌜ Judged c (now axis) ⌝ }
     requires { ⌜ Noticed (half c) f time (now axis) (now times) ⌝ }
-    ensures { λ r. ⌜ Answers (half c) (timedStep c false 0 (operandWith c (now (links .entry)) f (recordFrom (now (sheet .entry)) i .x)) 0 (pos 0) (now (marks .entry)) (sqs (now (axis .entry)) (now (times .entry)))) (now (axis .exit)) (now (times .exit)) r ⌝ }
+    ensures { λ r. ⌜ Answers (half c) (timedStep c false 0 (operandWith c (now (links .entry)) f (recordFrom (now (sheet .entry)) i .x)) 0
+        (pos 0) (now (marks .entry)) (sqs (now (axis .entry)) (now (times .entry)))) (now (axis .exit)) (now (times .exit)) r ⌝ }
 {
     let x = x_of(c, sheet, i, links, f);
     activate_now(c, axis, times, marks, f, time, x)
@@ -175,7 +128,9 @@ pub(crate) fn delayed_of(
     requires { ⌜ Readable c (now sheet) i (now links) f (recordFrom (now sheet) i .x) ⌝ }
     requires { ⌜ Judged c (now axis) ⌝ }
     requires { ⌜ Noticed (half c) f time (now axis) (now times) ⌝ }
-    ensures { λ r. ⌜ Answers (half c) (timedStep c false 2 (operandWith c (now (links .entry)) f (recordFrom (now (sheet .entry)) i .x)) 0 (recordFrom (now (sheet .entry)) i .t) (now (marks .entry)) (sqs (now (axis .entry)) (now (times .entry)))) (now (axis .exit)) (now (times .exit)) r ⌝ }
+    ensures { λ r. ⌜ Answers (half c) (timedStep c false 2 (operandWith c (now (links .entry)) f (recordFrom (now (sheet .entry)) i .x)) 0
+        (recordFrom (now (sheet .entry)) i .t) (now (marks .entry)) (sqs (now (axis .entry)) (now (times .entry)))) (now (axis .exit))
+        (now (times .exit)) r ⌝ }
 {
     let x = x_of(c, sheet, i, links, f);
     let t = t_at(sheet, i);
@@ -197,7 +152,10 @@ pub(crate) fn timed_of(
     requires { ⌜ Readable c (now sheet) i (now links) f (recordFrom (now sheet) i .x) ⌝ }
     requires { ⌜ Readable c (now sheet) i (now links) f (recordFrom (now sheet) i .y) ⌝ }
     requires { ⌜ Judged c (now axis) ⌝ }
-    ensures { λ r. ⌜ Answers (half c) (timedStep c again (recordFrom (now (sheet .entry)) i .clause) (operandWith c (now (links .entry)) f (recordFrom (now (sheet .entry)) i .x)) (operandWith c (now (links .entry)) f (recordFrom (now (sheet .entry)) i .y)) (recordFrom (now (sheet .entry)) i .t) (now (marks .entry)) (sqs (now (axis .entry)) (now (times .entry)))) (now (axis .exit)) (now (times .exit)) r ⌝ }
+    ensures { λ r. ⌜ Answers (half c) (timedStep c again (recordFrom (now (sheet .entry)) i .clause)
+        (operandWith c (now (links .entry)) f (recordFrom (now (sheet .entry)) i .x))
+        (operandWith c (now (links .entry)) f (recordFrom (now (sheet .entry)) i .y)) (recordFrom (now (sheet .entry)) i .t)
+        (now (marks .entry)) (sqs (now (axis .entry)) (now (times .entry)))) (now (axis .exit)) (now (times .exit)) r ⌝ }
 {
     let x = x_of(c, sheet, i, links, f);
     let y = y_of(c, sheet, i, links, f);
@@ -209,7 +167,8 @@ pub(crate) fn timed_of(
 pub(crate) fn accum_of(sheet: &[u8], i: usize, accums: &mut [i64], time: u64) -> Answer
     requires { ⌜ i + recordBytes ≤ length (now sheet) ⌝ }
     requires { ⌜ (1 ≤ recordFrom (now sheet) i .x) × (3 * recordFrom (now sheet) i .x ≤ length (now accums)) × (time ≤ limit) ⌝ }
-    ensures { λ r. ⌜ record { words = now (accums .exit); answer = r } ≡ updatedIn (recordFrom (now (sheet .entry)) i .x) time (recordFrom (now (sheet .entry)) i .t) (now (accums .entry)) ⌝ }
+    ensures { λ r. ⌜ record { words = now (accums .exit); answer = r }
+        ≡ updatedIn (recordFrom (now (sheet .entry)) i .x) time (recordFrom (now (sheet .entry)) i .t) (now (accums .entry)) ⌝ }
 {
     let k = x_at(sheet, i);
     let t = t_at(sheet, i);

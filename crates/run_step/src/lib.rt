@@ -1,9 +1,10 @@
 // One step of a run, on judged tables: the call of the record that current is at, or finish; then the process moves on and the line
 // is written. Core functions: the caller knows that the tables were judged.
 pub mod apart;
-pub mod arms;
+mod arms;
 pub mod perform;
 pub mod reading;
+mod set_arms;
 
 use model::Counts;
 use ring::wide;

@@ -3,9 +3,9 @@ use crate::arms::accum_of;
 use crate::arms::delayed_of;
 use crate::arms::direct_of;
 use crate::arms::hold_of;
-use crate::arms::into_of;
-use crate::arms::out_of;
 use crate::arms::wait_of;
+use crate::set_arms::into_of;
+use crate::set_arms::out_of;
 use model::Counts;
 use model::Refusal;
 use model::answer::Answer;
@@ -24,6 +24,7 @@ ghost use Rattle.run_laws.specs.Needs.{Readable, Performable};
 ghost use Rattle.run_laws.specs.Run.{recordGot};
 ghost use Rattle.run_laws.specs.Performed.{unlessRefused, branched};
 ghost use Rattle.run_laws.specs.Tried.{tried};
+ghost use Rattle.model_laws.specs.Tables.{modelOf};
 
 // An accepted call means e.
 pub(crate) fn unless_refused(a: Answer, e: Effect) -> Effect
@@ -69,9 +70,14 @@ fn perform_at(
     marks: &[u8],
     accums: &mut [i64],
 ) -> Effect
-    requires { ⌜ Performable c (now sheet) i f time (record { links = now links; axis = now axis; times = now times; marks = now marks }) (now accums) ⌝ }
-    ensures { λ r. ⌜ record { tables = record { links = now (links .exit); axis = now (axis .exit); times = now (times .exit); marks = now (marks .exit) }; words = now (accums .exit); effect = r }
-        ≡ tried c (recordFrom (now (sheet .entry)) i) f (record { links = now (links .entry); axis = now (axis .entry); times = now (times .entry); marks = now (marks .entry) }) (now (accums .entry)) ⌝ }
+    requires { ⌜ Performable c (now sheet) i f time (modelOf (now links) (now axis) (now times) (now marks)) (now accums) ⌝ }
+    ensures { λ r. ⌜ record {
+      tables = modelOf (now (links .exit)) (now (axis .exit)) (now (times .exit)) (now (marks .exit));
+      words = now (accums .exit);
+      effect = r;
+    }
+        ≡ tried c (recordFrom (now (sheet .entry)) i) f (modelOf (now (links .entry)) (now (axis .entry)) (now (times .entry))
+        (now (marks .entry))) (now (accums .entry)) ⌝ }
 {
     let op = operation_at(sheet, i);
     match op {
@@ -114,9 +120,15 @@ pub fn perform(
     marks: &[u8],
     accums: &mut [i64],
 ) -> Effect
-    requires { ⌜ (r ≢ 0 → Performable c (now sheet) (recordOffset (c .processes) r) f time (record { links = now links; axis = now axis; times = now times; marks = now marks }) (now accums)) ⌝ }
-    ensures { λ v. ⌜ record { tables = record { links = now (links .exit); axis = now (axis .exit); times = now (times .exit); marks = now (marks .exit) }; words = now (accums .exit); effect = v }
-        ≡ tried c (recordGot (c .processes) (now (sheet .entry)) r) f (record { links = now (links .entry); axis = now (axis .entry); times = now (times .entry); marks = now (marks .entry) }) (now (accums .entry)) ⌝ }
+    requires { ⌜ (r ≢ 0 → Performable c (now sheet) (recordOffset (c .processes) r) f time
+        (modelOf (now links) (now axis) (now times) (now marks)) (now accums)) ⌝ }
+    ensures { λ v. ⌜ record {
+      tables = modelOf (now (links .exit)) (now (axis .exit)) (now (times .exit)) (now (marks .exit));
+      words = now (accums .exit);
+      effect = v;
+    }
+        ≡ tried c (recordGot (c .processes) (now (sheet .entry)) r) f
+        (modelOf (now (links .entry)) (now (axis .entry)) (now (times .entry)) (now (marks .entry))) (now (accums .entry)) ⌝ }
 {
     if r == 0 {
         return Effect::Apart;

@@ -1,6 +1,7 @@
 // Reading a run's tables: current's place, time and record, and the operands of a record.
 use model::Counts;
 use ring::wide;
+use sheet::records::CURRENT;
 use sheet::records::next_at;
 use sheet::records::record_offset;
 use sheet::records::x_at;
@@ -89,10 +90,10 @@ pub(crate) fn operand(c: Counts, links: &[u32], f: u32, v: u32) -> u32
     if wide(v) <= c.total() {
         return v;
     }
-    if v == 65536 {
+    if v == CURRENT {
         return c.heads + f;
     }
-    let h = wide(v - 65536);
+    let h = wide(v - CURRENT);
     link_or(c.heads, links[h])
 }
 

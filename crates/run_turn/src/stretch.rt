@@ -41,8 +41,10 @@ pub fn stretch(
     requires { ⌜ lines ≤ room ⌝ }
     requires { ⌜ room ≤ length (now trace) / lineSize ⌝ }
     ensures { λ s. ⌜ Paused c (now (sheet .entry)) room lines
-        (turnsOn c (now (sheet .entry)) lines (room - lines) (lent (now (links .entry)) (now (axis .entry)) (now (times .entry)) (now (marks .entry)) (now (positions .entry)) (now (accums .entry))) (now (trace .entry)))
-        (now (trace .entry)) (lent (now (links .exit)) (now (axis .exit)) (now (times .exit)) (now (marks .exit)) (now (positions .exit)) (now (accums .exit))) (now (trace .exit)) s ⌝ }
+        (turnsOn c (now (sheet .entry)) lines (room - lines) (lent (now (links .entry)) (now (axis .entry)) (now (times .entry))
+        (now (marks .entry)) (now (positions .entry)) (now (accums .entry))) (now (trace .entry)))
+        (now (trace .entry)) (lent (now (links .exit)) (now (axis .exit)) (now (times .exit)) (now (marks .exit)) (now (positions .exit))
+        (now (accums .exit))) (now (trace .exit)) s ⌝ }
 {
     let end = LINE_BYTES * room;
     let mut at = LINE_BYTES * lines;

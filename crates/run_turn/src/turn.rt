@@ -1,5 +1,5 @@
-// One turn on judged tables: main is at its end, or a step is made or turned down; after a step that is made the process is at its next record,
-// and the line is written.
+// One turn on judged tables: main is at its end, or a step is made or turned down; after a step that is made the process is at its next
+// record, and the line is written.
 use crate::stretch::stretch;
 use model::Counts;
 use model::verdict::Verdict;
@@ -39,9 +39,16 @@ pub fn turn_apart(
 ) -> Turn
     requires { ⌜ Standing c (now sheet) (lent (now links) (now axis) (now times) (now marks) (now positions) (now accums)) ⌝ }
     requires { ⌜ i + lineSize ≤ length (now trace) ⌝ }
-    requires { ⌜ apart (recordGot (c .processes) (now sheet) (recordAtNow c (lent (now links) (now axis) (now times) (now marks) (now positions) (now accums)))) ≡ true ⌝ }
-    ensures { λ r. ⌜ record { run = lent (now (links .exit)) (now (axis .exit)) (now (times .exit)) (now (marks .exit)) (now (positions .exit)) (now (accums .exit)); trace = now (trace .exit); turn = r }
-        ≡ turnOn c (now (sheet .entry)) i (lent (now (links .entry)) (now (axis .entry)) (now (times .entry)) (now (marks .entry)) (now (positions .entry)) (now (accums .entry))) (now (trace .entry)) ⌝ }
+    requires { ⌜ apart (recordGot (c .processes) (now sheet)
+        (recordAtNow c (lent (now links) (now axis) (now times) (now marks) (now positions) (now accums)))) ≡ true ⌝ }
+    ensures { λ r. ⌜ record {
+      run = lent (now (links .exit)) (now (axis .exit)) (now (times .exit)) (now (marks .exit))
+          (now (positions .exit)) (now (accums .exit));
+      trace = now (trace .exit);
+      turn = r;
+    }
+        ≡ turnOn c (now (sheet .entry)) i (lent (now (links .entry)) (now (axis .entry)) (now (times .entry)) (now (marks .entry))
+        (now (positions .entry)) (now (accums .entry))) (now (trace .entry)) ⌝ }
 {
     let f = place_now(c, axis);
     let r = record_of(positions, f);
@@ -60,8 +67,8 @@ pub fn turn_apart(
     }
 }
 
-// A turn whose call may be any, where the trace has n lines and room for one more: a stretch of one line, and a turn apart where that leaves
-// the call.
+// A turn whose call may be any, where the trace has n lines and room for one more: a stretch of one line, and a turn apart where that
+// leaves the call.
 pub fn turn(
     c: Counts,
     sheet: &[u8],
@@ -77,8 +84,14 @@ pub fn turn(
     requires { ⌜ Standing c (now sheet) (lent (now links) (now axis) (now times) (now marks) (now positions) (now accums)) ⌝ }
     requires { ⌜ length (now trace) ≤ traceLimit ⌝ }
     requires { ⌜ n < length (now trace) / lineSize ⌝ }
-    ensures { λ r. ⌜ record { run = lent (now (links .exit)) (now (axis .exit)) (now (times .exit)) (now (marks .exit)) (now (positions .exit)) (now (accums .exit)); trace = now (trace .exit); turn = r }
-        ≡ turnOn c (now (sheet .entry)) (lineSize * n) (lent (now (links .entry)) (now (axis .entry)) (now (times .entry)) (now (marks .entry)) (now (positions .entry)) (now (accums .entry))) (now (trace .entry)) ⌝ }
+    ensures { λ r. ⌜ record {
+      run = lent (now (links .exit)) (now (axis .exit)) (now (times .exit)) (now (marks .exit))
+          (now (positions .exit)) (now (accums .exit));
+      trace = now (trace .exit);
+      turn = r;
+    }
+        ≡ turnOn c (now (sheet .entry)) (lineSize * n) (lent (now (links .entry)) (now (axis .entry)) (now (times .entry))
+        (now (marks .entry)) (now (positions .entry)) (now (accums .entry))) (now (trace .entry)) ⌝ }
 {
     let s = stretch(
         c,

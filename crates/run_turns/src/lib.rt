@@ -16,7 +16,7 @@ ghost use Prim.Native.Nat.{_/_, _≤_};
 ghost use lib.ListN.{length};
 ghost use Rattle.run_laws.specs.Run.{lent, turnsOn};
 ghost use Rattle.run_laws.specs.Standing.{Standing};
-ghost use Rattle.machine.specs.Run.{traceLimit};
+ghost use Rattle.machine.specs.Run.{lineSize, traceLimit};
 
 // A count of lines, at most 4,096.
 fn count(n: usize) -> u32
@@ -39,8 +39,15 @@ pub fn turns(
 ) -> Ran
     requires { ⌜ Standing c (now sheet) (lent (now links) (now axis) (now times) (now marks) (now positions) (now accums)) ⌝ }
     requires { ⌜ length (now trace) ≤ traceLimit ⌝ }
-    ensures { λ r. ⌜ record { run = lent (now (links .exit)) (now (axis .exit)) (now (times .exit)) (now (marks .exit)) (now (positions .exit)) (now (accums .exit)); trace = now (trace .exit); result = r }
-        ≡ turnsOn c (now (sheet .entry)) 0 (length (now (trace .entry)) / 16) (lent (now (links .entry)) (now (axis .entry)) (now (times .entry)) (now (marks .entry)) (now (positions .entry)) (now (accums .entry))) (now (trace .entry)) ⌝ }
+    ensures { λ r. ⌜ record {
+      run = lent (now (links .exit)) (now (axis .exit)) (now (times .exit)) (now (marks .exit))
+          (now (positions .exit)) (now (accums .exit));
+      trace = now (trace .exit);
+      result = r;
+    }
+        ≡ turnsOn c (now (sheet .entry)) 0 (length (now (trace .entry)) / lineSize)
+        (lent (now (links .entry)) (now (axis .entry)) (now (times .entry)) (now (marks .entry)) (now (positions .entry))
+        (now (accums .entry))) (now (trace .entry)) ⌝ }
 {
     let room = trace.len() / LINE_BYTES;
     let mut n = 0;

@@ -23,7 +23,7 @@ all-at f (suc n) e k a b =
 
 -- ---- counting down: of 1 to all, those up to n are left to test
 
-pub record Left (f : ℕ → Bool) (all n : ℕ) : Type 0 where
+pub record Remaining (f : ℕ → Bool) (all n : ℕ) : Type 0 where
   pub within : n ≤ all
   pub same : allTo f n ≡ allTo f all
 
@@ -38,15 +38,15 @@ last f n l = go (n - 1) (omega arith)
     go m e = subst (λ (k : ℕ). allTo f k ≡ (f k && allTo f (k - 1))) (sym e) (more f m)
 
 module _ (f : ℕ → Bool) (all n : ℕ) where
-  pub left-start : n ≡ all → Left f all n
+  pub left-start : n ≡ all → Remaining f all n
   left-start e = record { within = omega arith; same = ap (allTo f) e }
 
-  pub left-out : Left f all n → n ≤ 0 → true ≡ allTo f all
+  pub left-out : Remaining f all n → n ≤ 0 → true ≡ allTo f all
   unfolding allTo
   left-out g l = let e : 0 ≡ n = omega arith in ap (allTo f) e ∙ g .same
 
-  module _ (g : Left f all n) (some : 0 < n) where
-    pub left-turn : f n ≡ true → Left f all (n - 1)
+  module _ (g : Remaining f all n) (some : 0 < n) where
+    pub left-turn : f n ≡ true → Remaining f all (n - 1)
     left-turn e = record { within = omega (arith, g .within); same = sym (last f n some ∙ rw e) ∙ g .same }
 
     pub left-break : f n ≡ false → false ≡ allTo f all

@@ -43,24 +43,30 @@ verdicts (s ∷ ss) = accepted s ∷ verdicts ss
 
 -- as it stands; with the first member of head 1 for x; with a start of 0; with a record that no chain reaches
 pub fine-ones : verdicts (worked ∷ set worked 80 1 ∷ set worked 16 0 ∷ set worked 24 0 ∷ []) ≡ true ∷ true ∷ true ∷ true ∷ []
-unfolding accepted sized sizeFine layoutFine recordFine fieldsFine mayHold isOperand rowOf under allTo inLimits countsOf recordsOf startAt recordFrom u32At u64At i64At
+unfolding accepted sized sizeFine layoutFine recordFine fieldsFine mayHold isOperand rowOf under allTo inLimits countsOf recordsOf startAt
+    recordFrom u32At u64At i64At
 fine-ones = refl
 
 -- "95 bytes, R = 3"; a byte too many; no header; 65 heads
-pub wrong-sizes : verdicts (take 95 worked ∷ (worked ++ (0 ∷ [])) ∷ take 15 worked ∷ set worked 0 65 ∷ []) ≡ false ∷ false ∷ false ∷ false ∷ []
-unfolding accepted sized sizeFine layoutFine recordFine fieldsFine mayHold isOperand rowOf under allTo inLimits countsOf recordsOf startAt recordFrom u32At u64At i64At
+pub wrong-sizes : verdicts (take 95 worked ∷ (worked ++ (0 ∷ [])) ∷ take 15 worked ∷ set worked 0 65 ∷ [])
+    ≡ false ∷ false ∷ false ∷ false ∷ []
+unfolding accepted sized sizeFine layoutFine recordFine fieldsFine mayHold isOperand rowOf under allTo inLimits countsOf recordsOf startAt
+    recordFrom u32At u64At i64At
 wrong-sizes = refl
 
 -- a start of 4, a next of 4, the operations 0 and 14, clause 7, either of the two zero bytes
 pub wrong-numbers :
-    verdicts (set worked 20 4 ∷ set worked 24 4 ∷ set worked 28 0 ∷ set worked 28 14 ∷ set worked 29 7 ∷ set worked 30 1 ∷ set worked 31 1 ∷ [])
+    verdicts (set worked 20 4 ∷ set worked 24 4 ∷ set worked 28 0 ∷ set worked 28 14 ∷ set worked 29 7 ∷ set worked 30 1
+    ∷ set worked 31 1 ∷ [])
     ≡ false ∷ false ∷ false ∷ false ∷ false ∷ false ∷ false ∷ []
-unfolding accepted sized sizeFine layoutFine recordFine fieldsFine mayHold isOperand rowOf under allTo inLimits countsOf recordsOf startAt recordFrom u32At u64At i64At
+unfolding accepted sized sizeFine layoutFine recordFine fieldsFine mayHold isOperand rowOf under allTo inLimits countsOf recordsOf startAt
+    recordFrom u32At u64At i64At
 wrong-numbers = refl
 
 -- a y under clause 2, a t under clause 0, a clause in hold, an x in hold, the operands 4 and 65,536 + 2
 pub wrong-fields :
     verdicts (set worked 36 1 ∷ set worked 29 0 ∷ set worked 53 1 ∷ set worked 56 1 ∷ set worked 32 4 ∷ set worked 80 2 ∷ [])
     ≡ false ∷ false ∷ false ∷ false ∷ false ∷ false ∷ []
-unfolding accepted sized sizeFine layoutFine recordFine fieldsFine mayHold isOperand rowOf under allTo inLimits countsOf recordsOf startAt recordFrom u32At u64At i64At
+unfolding accepted sized sizeFine layoutFine recordFine fieldsFine mayHold isOperand rowOf under allTo inLimits countsOf recordsOf startAt
+    recordFrom u32At u64At i64At
 wrong-fields = refl

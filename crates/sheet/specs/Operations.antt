@@ -31,7 +31,8 @@ rowOf op =
     else if has op (7 ∷ []) then plain Nothing Nothing false  -- "7 passivate | none"
     else if has op (8 ∷ []) then plain Nothing Operand false  -- "8 wait | y"
     else if has op (9 ∷ []) then plain Operand Nothing false  -- "9 cancel | x"
-    else if has op (10 ∷ 11 ∷ []) then record { clause = true; x = Operand; y = Operand; t = true }  -- "10 activate, 11 reactivate | clause, x, y .., t .."
+    -- "10 activate, 11 reactivate | clause, x, y .., t .."
+    else if has op (10 ∷ 11 ∷ []) then record { clause = true; x = Operand; y = Operand; t = true }
     else if has op (12 ∷ []) then plain Operand RecordNumber false  -- "12 if head x is empty go to record y | x, y"
     else if has op (13 ∷ []) then plain AccumulatorNumber Nothing true  -- "13 accum number x by t | x"; "For 13, t is used too"
     else plain Nothing Nothing false
@@ -39,7 +40,9 @@ rowOf op =
 -- where a clause is used: ".. y for 5 and 6, t for 1 to 4"
 unfoldable pub under : ℕ → Uses → Uses
 under clause u =
-    if u .clause then record { clause = true; x = u .x; y = if leb 5 clause then u .y else Nothing; t = leb 1 clause && leb clause 4 } else u
+    if u .clause
+    then record { clause = true; x = u .x; y = if leb 5 clause then u .y else Nothing; t = leb 1 clause && leb clause 4 }
+    else u
 
 -- the fields that a record of this operation and clause uses
 abbrev pub usesOf : ℕ → ℕ → Uses
@@ -48,8 +51,10 @@ usesOf op clause = under clause (rowOf op)
 -- ---- the constant table
 
 -- a list that spells the rows from 1 on has the row of op at op - 1
-pub row-at : (xs : List Uses) (d : Uses) → xs ≡ listed rowOf 1 lastOperation → (op : ℕ) → 1 ≤ op → op ≤ lastOperation → getD xs (op - 1) d ≡ rowOf op
-row-at xs d e op a b = ap (λ (l : List Uses). getD l (op - 1) d) e ∙ listed-at rowOf d lastOperation 1 (op - 1) (omega arith) ∙ ap rowOf (omega arith)
+pub row-at : (xs : List Uses) (d : Uses) → xs ≡ listed rowOf 1 lastOperation → (op : ℕ) → 1 ≤ op → op ≤ lastOperation
+    → getD xs (op - 1) d ≡ rowOf op
+row-at xs d e op a b = ap (λ (l : List Uses). getD l (op - 1) d) e ∙ listed-at rowOf d lastOperation 1 (op - 1) (omega arith)
+    ∙ ap rowOf (omega arith)
 
 -- ---- the narrowing, by its cases
 

@@ -14,7 +14,8 @@ use Rattle.ring_laws.specs.Lists.{if_then_else_, test}
 use Rattle.ring_laws.specs.Tabulate.{listed-at, length-listed}
 use Rattle.sheet.specs.AllTo.{all-at}
 use Rattle.sheet.specs.Sheet.{countsOf, recordsOf, startOffset, startAt, recordOffset, recordAt, sheetOf, headerBytes, recordBytes}
-use Rattle.sheet.specs.Accepted.{headerOf, lengthOf, sizeFine, sized, recordFine, padFine, startsTo, layoutFine, recordsTo, accepted, checked, checkedCode}
+use Rattle.sheet.specs.Accepted.{headerOf, lengthOf, sizeFine, sized, recordFine, padFine, startsTo, layoutFine, recordsTo, accepted}
+use Rattle.sheet.specs.Accepted.{checked, checkedCode}
 use Rattle.sheet.specs.Checking.{answer-yes, answer-no}
 use Rattle.sheet.specs.Fields.{Ranged, ranged}
 use Rattle.sheet.specs.declared.header.Header.{Header}

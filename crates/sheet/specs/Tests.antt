@@ -18,7 +18,8 @@ use Rattle.model.specs.declared.Refusal.the-variants.{Layout}
 use Rattle.words.specs.Words.{u8At, u32At, i64At}
 use Rattle.sheet.specs.Sheet.{recordOffset, recordFrom}
 use Rattle.sheet.specs.Operations.{usesOf, lastOperation}
-use Rattle.sheet.specs.Accepted.{lengthOf, sizeFine, isOperand, mayHold, fieldsFine, recordFine, padFine, layoutFine, answer, operandBase}
+use Rattle.sheet.specs.Accepted.{lengthOf, sizeFine, isOperand, mayHold, fieldsFine, recordFine, padFine, layoutFine, answer}
+use Rattle.sheet.specs.Accepted.{operandBase}
 use Rattle.sheet.specs.declared.header.Header.{Header}
 use Rattle.sheet.specs.declared.header.Checked.the-variants.{Accepted, Refused}
 use Rattle.sheet.specs.declared.operations.Holds.{Holds}

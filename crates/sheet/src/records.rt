@@ -13,6 +13,9 @@ pub const HEADER_BYTES: usize = 16;
 
 pub const RECORD_BYTES: usize = 24;
 
+// The operand that stands for current; above it stand the first members of the heads.
+pub const CURRENT: u32 = 65536;
+
 // A record's fields, t as a signed number.
 pub struct Record {
     pub next: u32,

@@ -5,15 +5,13 @@ use ring::wide;
 use sheet::header::Header;
 use sheet::operations::Holds;
 use sheet::operations::Uses;
+use sheet::records::CURRENT;
 use sheet::records::Record;
 ghost use mathlib.Core.Path.{_≡_};
 ghost use mathlib.Core.Bool.{_||_};
 ghost use lib.Dec.{eqb};
 ghost use lib.IntN.{natAbs};
 ghost use Rattle.sheet.specs.Accepted.{isOperand, isAccumulator, mayHold, fieldsFine, recordFine};
-
-// The operand that stands for current; above it stand the first members of the heads.
-pub const CURRENT: u32 = 65536;
 
 // The most accumulators that a run has.
 pub const MAX_ACCUMULATORS: u32 = 64;

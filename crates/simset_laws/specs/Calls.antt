@@ -9,7 +9,7 @@ use Rattle.model.specs.declared.Refusal.the-variants.{Operand}
 use Rattle.model.specs.Counts.{total, isHead, isLink, isLinkage}
 use Rattle.model.specs.declared.answer.Answer.{Answer}
 use Rattle.model.specs.declared.answer.Answer.the-variants.{Done, Linkage, Number, Truth, Refused}
-use Rattle.model_laws.specs.Tables.{Tables, After}
+use Rattle.model_laws.specs.Tables.{Tables, After, modelOf}
 use Rattle.simset_laws.specs.Procedures.{followed, preceded, cleared, sucOf, predOf, emptyOf, cardinalOf}
 
 -- the links after a call, and its answer
@@ -70,7 +70,7 @@ cardinalTold c x t = toldIf (isHead c x) (Number (cardinalOf (total c + 1) x t))
 abbrev pub onLinks : (List ℕ → Linked) → Tables → After Answer
 onLinks f t =
     record {
-      tables = record { links = f (t .links) .links; axis = t .axis; times = t .times; marks = t .marks };
+      tables = modelOf (f (t .links) .links) (t .axis) (t .times) (t .marks);
       answer = f (t .links) .answer;
     }
 

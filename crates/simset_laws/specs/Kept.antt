@@ -13,6 +13,7 @@ use Rattle.model.specs.declared.call.SetCall.{SetCall}
 use Rattle.model.specs.declared.call.SetCall.the-variants.{Out, Follow, Precede, Into, Clear}
 use Rattle.model_laws.specs.Called.{called}
 use Rattle.model_laws.specs.Result.{KeepsRefused, called-kept}
+use Rattle.model_laws.specs.Tables.{modelOf}
 use Rattle.simset_laws.specs.Procedures.{followed, preceded, cleared}
 use Rattle.simset_laws.specs.Calls.{linkedIf, orNone, onLinks, outStep, followStep, precedeStep, intoStep, clearStep}
 use Rattle.simset_laws.specs.Plain.{linksAfter}
@@ -31,7 +32,7 @@ links-kept c (Into x y) t r e = if-kept (isLink c x && orNone (isHead c y) y) t 
 links-kept c (Clear x) t r e = if-kept (isHead c x) t (cleared (total c + 1) x t) r e
 
 pub set-steps : (c : Counts) (k : SetCall) → KeepsRefused (onLinks (linksAfter c k))
-set-steps c k t r e = ap (λ (l : List ℕ). record { links = l; axis = t .axis; times = t .times; marks = t .marks })
+set-steps c k t r e = ap (λ (l : List ℕ). modelOf l (t .axis) (t .times) (t .marks))
     (links-kept c k (t .links) r e)
 
 -- the public calls

@@ -15,7 +15,8 @@ use Rattle.ring_laws.specs.Spell as ring
 use Rattle.model_laws.specs.Tables.{setHead, membersOf, SpellsSets}
 use Rattle.simset_laws.specs.Sets.{eachSet, outSets, putBehind, putAhead, followSets, precedeSets}
 use Rattle.simset_laws.specs.Procedures.{followed, preceded}
-use Rattle.simset_laws.specs.Moves.{follow-none, follow-off, follow-on, precede-none, precede-off, precede-on, followed-is, preceded-is}
+use Rattle.simset_laws.specs.Moves.{follow-none, follow-off, follow-on, precede-none, precede-off, precede-on, followed-is}
+use Rattle.simset_laws.specs.Moves.{preceded-is}
 use Rattle.simset_laws.specs.EachSet.{length-on, getD-on, on-same, ahead-none}
 
 -- the heads are 1 .. H
@@ -60,7 +61,8 @@ module _ (m H : ℕ) (sets : List (List ℕ)) (t : List ℕ) (s : SpellsSets m H
 
   -- ---- put beside y
 
-  put-at : (f : ℕ → List ℕ → List ℕ) (u : List ℕ) → ring.Spells m (setHead H) (λ g. f g (membersOf sets g)) u → SpellsSets m H (eachSet f 1 sets) u
+  put-at : (f : ℕ → List ℕ → List ℕ) (u : List ℕ) → ring.Spells m (setHead H) (λ g. f g (membersOf sets g)) u
+      → SpellsSets m H (eachSet f 1 sets) u
   put-at f u sp =
       record {
         all = length-on f 1 sets ∙ s .all;
@@ -126,7 +128,11 @@ module _ (m H : ℕ) (sets : List (List ℕ)) (t : List ℕ) (s : SpellsSets m H
   sets-followed y l =
       rw (followed-is m x y t)
       (decide y 0
-      (λ z. rw (follow-none m x y u z, behind-nowhere m H (outSets x sets) u out-is x y b (ap (sucs m u) z ∙ out-is .spelled .rings .zero-s)) out-is)
+      (λ z. rw (
+        follow-none m x y u z,
+        behind-nowhere m H (outSets x sets) u out-is x y b
+            (ap (sucs m u) z ∙ out-is .spelled .rings .zero-s),
+      ) out-is)
       (λ n. decide (getD u y 0) 0
       (λ z. rw (follow-off m x y u n z, behind-nowhere m H (outSets x sets) u out-is x y b (u-at y l ∙ z)) out-is)
       (λ o.
@@ -137,7 +143,11 @@ module _ (m H : ℕ) (sets : List (List ℕ)) (t : List ℕ) (s : SpellsSets m H
   sets-preceded y l =
       rw (preceded-is m x y t)
       (decide y 0
-      (λ z. rw (precede-none m x y u z, ahead-nowhere m H (outSets x sets) u out-is x y b (ap (sucs m u) z ∙ out-is .spelled .rings .zero-s)) out-is)
+      (λ z. rw (
+        precede-none m x y u z,
+        ahead-nowhere m H (outSets x sets) u out-is x y b
+            (ap (sucs m u) z ∙ out-is .spelled .rings .zero-s),
+      ) out-is)
       (λ n. decide (getD u y 0) 0
       (λ z. rw (precede-off m x y u n z, ahead-nowhere m H (outSets x sets) u out-is x y b (u-at y l ∙ z)) out-is)
       (λ o.

@@ -18,13 +18,14 @@ use Rattle.model.specs.declared.verdict.Verdict.{Verdict}
 use Rattle.model.specs.declared.verdict.Verdict.the-variants.{Fine}
 use Rattle.model.specs.declared.call.SetCall.{SetCall}
 use Rattle.model.specs.declared.call.SetCall.the-variants.{Out, Follow, Precede, Into, Clear}
-use Rattle.model_laws.specs.Tables.{Tables, Lists, After, Sized, setHead, membersOf, SpellsSets, Spells}
+use Rattle.model_laws.specs.Tables.{Tables, Lists, After, Sized, setHead, membersOf, SpellsSets, Spells, modelOf}
 use Rattle.model_laws.specs.Judge.{judged}
 use Rattle.model_laws.specs.Verdict.{judged-says}
 use Rattle.model_laws.specs.Called.{called, asked, turning, telling}
 use Rattle.model_laws.specs.Result.{done, need, Follows}
 use Rattle.simset_laws.specs.Sets.{sucSets, predSets, noLinks}
-use Rattle.simset_laws.specs.Calls.{linkedIf, toldIf, orNone, outStep, followStep, precedeStep, intoStep, clearStep, firstTold, lastTold, sucTold, predTold, emptyTold, cardinalTold, onLinks, ofLinks}
+use Rattle.simset_laws.specs.Calls.{linkedIf, toldIf, orNone, outStep, followStep, precedeStep, intoStep, clearStep, firstTold}
+use Rattle.simset_laws.specs.Calls.{lastTold, sucTold, predTold, emptyTold, cardinalTold, onLinks, ofLinks}
 use Rattle.simset_laws.specs.Procedures.{sucOf, predOf}
 use Rattle.simset_laws.specs.Plain.{withSets, setCall, linksAfter}
 use Rattle.simset_laws.specs.Promise.{link-in, linkage-in, head-in, none-or}
@@ -66,7 +67,7 @@ module _ (c : Counts) (l : Lists) (t : Tables) (z : Sized c t) (s : Spells c l t
 
   -- the links after a procedure spell these sets; axis, times and marks stay
   with-links : (u : List ℕ) (k : List (List ℕ)) → SpellsSets m (c .heads) k u
-      → Spells c (withSets l k) (record { links = u; axis = t .axis; times = t .times; marks = t .marks })
+      → Spells c (withSets l k) (modelOf u (t .axis) (t .times) (t .marks))
   with-links u k w =
       record {
         links = w;

@@ -14,6 +14,7 @@ use Rattle.model.specs.Counts.{total, isHead, isLink, isLinkage, both}
 use Rattle.model.specs.declared.answer.Answer.{Answer}
 use Rattle.model.specs.declared.answer.Answer.the-variants.{Done, Refused}
 use Rattle.model.specs.declared.call.SetCall.{SetCall}
+use Rattle.model_laws.specs.Tables.{modelOf}
 use Rattle.simset_laws.specs.Calls.{Linked, linkedIf, toldIf, orNone, onLinks}
 use Rattle.simset_laws.specs.Plain.{linksAfter}
 
@@ -78,12 +79,14 @@ pub told : (b : Bool) (a r : Answer) → b ≡ true → r ≡ a → r ≡ toldIf
 told b a r e f = rw e f
 
 -- a call that turned out to be this one
-pub moved-as : (m : ℕ) (c : Counts) (k j : SetCall) (t : List ℕ) (got : Linked) → k ≡ j → Moved m (linksAfter c j t) got → Moved m (linksAfter c k t) got
+pub moved-as : (m : ℕ) (c : Counts) (k j : SetCall) (t : List ℕ) (got : Linked) → k ≡ j → Moved m (linksAfter c j t) got
+    → Moved m (linksAfter c k t) got
 moved-as m c k j t got e w = rw e w
 
 -- a call that was made on the links, seen on the whole model
-pub on-links : (m : ℕ) (links axis times marks l : List ℕ) (a : Answer) (f : List ℕ → Linked) → Moved m (f links) (record { links = l; answer = a })
-    → record { tables = record { links = l; axis = axis; times = times; marks = marks }; answer = a }
-    ≡ onLinks f (record { links = links; axis = axis; times = times; marks = marks })
+pub on-links : (m : ℕ) (links axis times marks l : List ℕ) (a : Answer) (f : List ℕ → Linked)
+    → Moved m (f links) (record { links = l; answer = a })
+    → record { tables = modelOf l axis times marks; answer = a }
+    ≡ onLinks f (modelOf links axis times marks)
 on-links m links axis times marks l a f k =
-    ap (λ (g : Linked). record { tables = record { links = g .links; axis = axis; times = times; marks = marks }; answer = g .answer }) (k .is)
+    ap (λ (g : Linked). record { tables = modelOf (g .links) axis times marks; answer = g .answer }) (k .is)

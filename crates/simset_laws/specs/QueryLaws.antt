@@ -144,7 +144,8 @@ module _ (m H : ℕ) (sets : List (List ℕ)) (t : List ℕ) (s : SpellsSets m H
       (λ n.
       let w = stands m H sets t s x l n in
       ring-prev S P H (w .0) (leb-true (w .0) H (w .1 .is)) (membersOf sets (w .0)) x (r .ring (w .0) (w .1))
-      (rings-dist m (setHead H) (membersOf sets) S P r (w .0) (w .1)) (λ y i. above (w .0) y (w .1) i) (⊎-elim (λ e. inr e) (λ i. inl i) (w .2))
+      (rings-dist m (setHead H) (membersOf sets) S P r (w .0) (w .1)) (λ y i. above (w .0) y (w .1) i)
+      (⊎-elim (λ e. inr e) (λ i. inl i) (w .2))
       ∙ sym (found (λ h k. prevIn x (k ++ (h ∷ []))) x (w .0) (w .1) (w .2)))
 
   pub empty-says : (h : ℕ) → Head m (setHead H) h → emptyOf h t ≡ noLinks (membersOf sets h)

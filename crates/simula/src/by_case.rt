@@ -10,6 +10,7 @@ ghost use mathlib.Core.Path.{_≡_};
 ghost use Prim.Native.Nat.{_+_};
 ghost use Rattle.ring_laws.specs.Table.{Sound};
 ghost use Rattle.model.specs.Counts.{total};
+ghost use Rattle.model_laws.specs.Tables.{modelOf};
 ghost use Rattle.simset_laws.specs.Plain.{linksAfter};
 ghost use Rattle.simset_laws.specs.Promise.{Moved};
 ghost use Rattle.simulation_laws.specs.Promise.{Judged, Takeable};
@@ -38,8 +39,8 @@ pub(crate) fn sequencing_step(
 ) -> Answer
     requires { ⌜ Takeable c (now axis) (now times) ⌝ }
     requires { ⌜ Sound (total c + 1) (now links) ⌝ }
-    ensures { λ r. ⌜ record { tables = record { links = now (links .exit); axis = now (axis .exit); times = now (times .exit); marks = now (marks .exit) }; answer = r }
-        ≡ sequencingAfter c call (record { links = now (links .entry); axis = now (axis .entry); times = now (times .entry); marks = now (marks .entry) }) ⌝ }
+    ensures { λ r. ⌜ record { tables = modelOf (now (links .exit)) (now (axis .exit)) (now (times .exit)) (now (marks .exit)); answer = r }
+        ≡ sequencingAfter c call (modelOf (now (links .entry)) (now (axis .entry)) (now (times .entry)) (now (marks .entry))) ⌝ }
 {
     match call {
         SequencingCall::Hold(t) => simulation::steps::hold(c, axis, times, t),
@@ -67,7 +68,7 @@ pub(crate) fn tell(
 ) -> Answer
     requires { ⌜ Judged c (now axis) ⌝ }
     requires { ⌜ Sound (total c + 1) (now links) ⌝ }
-    ensures { λ r. ⌜ r ≡ queryTold c query (record { links = now (links .entry); axis = now (axis .entry); times = now (times .entry); marks = now (marks .entry) }) ⌝ }
+    ensures { λ r. ⌜ r ≡ queryTold c query (modelOf (now (links .entry)) (now (axis .entry)) (now (times .entry)) (now (marks .entry))) ⌝ }
 {
     match query {
         Query::First(x) => on_links::first(c, links, x),

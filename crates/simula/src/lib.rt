@@ -1,5 +1,5 @@
-// The public calls and queries of SIMSET and SIMULATION: each is lent the whole model and a call as a value, judges the model, and makes the
-// call or tells the answer. Refusals come in the order 1, 2, 3, then the rest; a refused call changes no word.
+// The public calls and queries of SIMSET and SIMULATION: each is lent the whole model and a call as a value, judges the model, and makes
+// the call or tells the answer. Refusals come in the order 1, 2, 3, then the rest; a refused call changes no word.
 mod by_case;
 
 use crate::by_case::sequencing_step;
@@ -14,6 +14,7 @@ use model::verdict::Verdict;
 use model_judge::judge_tables;
 ghost use mathlib.Core.Path.{_≡_};
 ghost use Rattle.model_laws.specs.Called.{called, asked};
+ghost use Rattle.model_laws.specs.Tables.{modelOf};
 ghost use Rattle.simset_laws.specs.Calls.{onLinks};
 ghost use Rattle.simset_laws.specs.Plain.{linksAfter};
 ghost use Rattle.simulation_laws.specs.PublicCalls.{sequencingAfter, queryTold};
@@ -27,8 +28,12 @@ pub fn set_call(
     marks: &[u8],
     call: SetCall,
 ) -> Answer
-    ensures { λ r. ⌜ record { tables = record { links = now (links .exit); axis = now (axis .entry); times = now (times .entry); marks = now (marks .entry) }; answer = r }
-        ≡ called c (onLinks (linksAfter c call)) (record { links = now (links .entry); axis = now (axis .entry); times = now (times .entry); marks = now (marks .entry) }) ⌝ }
+    ensures { λ r. ⌜ record {
+      tables = modelOf (now (links .exit)) (now (axis .entry)) (now (times .entry)) (now (marks .entry));
+      answer = r;
+    }
+        ≡ called c (onLinks (linksAfter c call)) (modelOf (now (links .entry)) (now (axis .entry)) (now (times .entry))
+        (now (marks .entry))) ⌝ }
 {
     let v = judge_tables(c, links, axis, times, marks);
     match v {
@@ -46,8 +51,8 @@ pub fn sequencing_call(
     marks: &mut [u8],
     call: SequencingCall,
 ) -> Answer
-    ensures { λ r. ⌜ record { tables = record { links = now (links .exit); axis = now (axis .exit); times = now (times .exit); marks = now (marks .exit) }; answer = r }
-        ≡ called c (sequencingAfter c call) (record { links = now (links .entry); axis = now (axis .entry); times = now (times .entry); marks = now (marks .entry) }) ⌝ }
+    ensures { λ r. ⌜ record { tables = modelOf (now (links .exit)) (now (axis .exit)) (now (times .exit)) (now (marks .exit)); answer = r }
+        ≡ called c (sequencingAfter c call) (modelOf (now (links .entry)) (now (axis .entry)) (now (times .entry)) (now (marks .entry))) ⌝ }
 {
     let v = judge_tables(c, links, axis, times, marks);
     match v {
@@ -65,7 +70,8 @@ pub fn query(
     marks: &[u8],
     query: Query,
 ) -> Answer
-    ensures { λ r. ⌜ r ≡ asked c (queryTold c query) (record { links = now (links .entry); axis = now (axis .entry); times = now (times .entry); marks = now (marks .entry) }) ⌝ }
+    ensures { λ r. ⌜ r ≡ asked c (queryTold c query) (modelOf (now (links .entry)) (now (axis .entry)) (now (times .entry))
+        (now (marks .entry))) ⌝ }
 {
     let v = judge_tables(c, links, axis, times, marks);
     match v {

@@ -30,7 +30,8 @@ fn direct(
     requires { ⌜ x < m ⌝ }
     requires { ⌜ m ≤ 1026 ⌝ }
     requires { ⌜ Noticed m f time (now axis) (now times) ⌝ }
-    ensures { λ r. ⌜ Answers m (activated m false 0 x 0 0 (now (marks .entry)) (sqs (now (axis .entry)) (now (times .entry)))) (now (axis .exit)) (now (times .exit)) r ⌝ }
+    ensures { λ r. ⌜ Answers m (activated m false 0 x 0 0 (now (marks .entry)) (sqs (now (axis .entry)) (now (times .entry))))
+        (now (axis .exit)) (now (times .exit)) r ⌝ }
 {
     if is_vain(axis, m, marks, false, 0, x, 0) {
         return Answer::Done;
@@ -54,7 +55,8 @@ fn delayed(
     requires { ⌜ x < m ⌝ }
     requires { ⌜ m ≤ 1026 ⌝ }
     requires { ⌜ Noticed m f time (now axis) (now times) ⌝ }
-    ensures { λ r. ⌜ Answers m (activated m false 2 x 0 d (now (marks .entry)) (sqs (now (axis .entry)) (now (times .entry)))) (now (axis .exit)) (now (times .exit)) r ⌝ }
+    ensures { λ r. ⌜ Answers m (activated m false 2 x 0 d (now (marks .entry)) (sqs (now (axis .entry)) (now (times .entry))))
+        (now (axis .exit)) (now (times .exit)) r ⌝ }
 {
     if is_vain(axis, m, marks, false, 2, x, 0) {
         return Answer::Done;
@@ -78,7 +80,8 @@ pub fn activate_now(
 ) -> Answer
     requires { ⌜ Judged c (now axis) ⌝ }
     requires { ⌜ Noticed (half c) f time (now axis) (now times) ⌝ }
-    ensures { λ r. ⌜ Answers (half c) (timedStep c false 0 x 0 (pos 0) (now (marks .entry)) (sqs (now (axis .entry)) (now (times .entry)))) (now (axis .exit)) (now (times .exit)) r ⌝ }
+    ensures { λ r. ⌜ Answers (half c) (timedStep c false 0 x 0 (pos 0) (now (marks .entry)) (sqs (now (axis .entry)) (now (times .entry))))
+        (now (axis .exit)) (now (times .exit)) r ⌝ }
 {
     let ok = process_or_none(c, x);
     if !ok {
@@ -102,7 +105,8 @@ pub fn activate_after(
 ) -> Answer
     requires { ⌜ Judged c (now axis) ⌝ }
     requires { ⌜ Noticed (half c) f time (now axis) (now times) ⌝ }
-    ensures { λ r. ⌜ Answers (half c) (timedStep c false 2 x 0 t (now (marks .entry)) (sqs (now (axis .entry)) (now (times .entry)))) (now (axis .exit)) (now (times .exit)) r ⌝ }
+    ensures { λ r. ⌜ Answers (half c) (timedStep c false 2 x 0 t (now (marks .entry)) (sqs (now (axis .entry)) (now (times .entry))))
+        (now (axis .exit)) (now (times .exit)) r ⌝ }
 {
     let ok = process_or_none(c, x);
     if !ok {

@@ -34,7 +34,8 @@ pub(crate) fn process_or_none(c: Counts, x: u32) -> bool
 
 pub fn hold(c: Counts, axis: &mut [u32], times: &mut [u64], t: i64) -> Answer
     requires { ⌜ Takeable c (now axis) (now times) ⌝ }
-    ensures { λ r. ⌜ Answers (half c) (holdStep c t (sqs (now (axis .entry)) (now (times .entry)))) (now (axis .exit)) (now (times .exit)) r ⌝ }
+    ensures { λ r. ⌜ Answers (half c) (holdStep c t (sqs (now (axis .entry)) (now (times .entry)))) (now (axis .exit)) (now (times .exit))
+        r ⌝ }
 {
     let p = wide(c.processes);
     let d = above_zero(t);
@@ -45,7 +46,8 @@ pub fn hold(c: Counts, axis: &mut [u32], times: &mut [u64], t: i64) -> Answer
 pub fn hold_now(c: Counts, axis: &mut [u32], times: &mut [u64], f: u32, time: u64, t: i64) -> Answer
     requires { ⌜ Takeable c (now axis) (now times) ⌝ }
     requires { ⌜ Noticed (half c) f time (now axis) (now times) ⌝ }
-    ensures { λ r. ⌜ Answers (half c) (holdStep c t (sqs (now (axis .entry)) (now (times .entry)))) (now (axis .exit)) (now (times .exit)) r ⌝ }
+    ensures { λ r. ⌜ Answers (half c) (holdStep c t (sqs (now (axis .entry)) (now (times .entry)))) (now (axis .exit)) (now (times .exit))
+        r ⌝ }
 {
     let p = wide(c.processes);
     let d = above_zero(t);
@@ -54,7 +56,8 @@ pub fn hold_now(c: Counts, axis: &mut [u32], times: &mut [u64], f: u32, time: u6
 
 pub fn passivate(c: Counts, axis: &mut [u32], times: &mut [u64]) -> Answer
     requires { ⌜ Takeable c (now axis) (now times) ⌝ }
-    ensures { λ r. ⌜ Answers (half c) (passivateStep c (sqs (now (axis .entry)) (now (times .entry)))) (now (axis .exit)) (now (times .exit)) r ⌝ }
+    ensures { λ r. ⌜ Answers (half c) (passivateStep c (sqs (now (axis .entry)) (now (times .entry)))) (now (axis .exit))
+        (now (times .exit)) r ⌝ }
 {
     let p = wide(c.processes);
     procedures::passivate(axis, p + 2, times)
@@ -62,7 +65,8 @@ pub fn passivate(c: Counts, axis: &mut [u32], times: &mut [u64]) -> Answer
 
 pub fn cancel(c: Counts, axis: &mut [u32], times: &mut [u64], x: u32) -> Answer
     requires { ⌜ Judged c (now axis) ⌝ }
-    ensures { λ r. ⌜ Answers (half c) (cancelStep c x (sqs (now (axis .entry)) (now (times .entry)))) (now (axis .exit)) (now (times .exit)) r ⌝ }
+    ensures { λ r. ⌜ Answers (half c) (cancelStep c x (sqs (now (axis .entry)) (now (times .entry)))) (now (axis .exit)) (now (times .exit))
+        r ⌝ }
 {
     let ok = process_or_none(c, x);
     if !ok {
@@ -121,7 +125,8 @@ pub fn activate(
     t: i64,
 ) -> Answer
     requires { ⌜ Judged c (now axis) ⌝ }
-    ensures { λ r. ⌜ Answers (half c) (timedStep c again clause x y t (now (marks .entry)) (sqs (now (axis .entry)) (now (times .entry)))) (now (axis .exit)) (now (times .exit)) r ⌝ }
+    ensures { λ r. ⌜ Answers (half c) (timedStep c again clause x y t (now (marks .entry)) (sqs (now (axis .entry)) (now (times .entry))))
+        (now (axis .exit)) (now (times .exit)) r ⌝ }
 {
     let ok = parties_fine(c, clause, x, y);
     if !ok {
@@ -137,7 +142,8 @@ pub fn activate(
 
 pub fn finish(c: Counts, axis: &mut [u32], times: &mut [u64], marks: &mut [u8]) -> Answer
     requires { ⌜ Takeable c (now axis) (now times) ⌝ }
-    ensures { λ r. ⌜ FinishMade c (finishStep c (now (marks .entry)) (sqs (now (axis .entry)) (now (times .entry)))) (now (axis .exit)) (now (times .exit)) (now (marks .exit)) r ⌝ }
+    ensures { λ r. ⌜ FinishMade c (finishStep c (now (marks .entry)) (sqs (now (axis .entry)) (now (times .entry)))) (now (axis .exit))
+        (now (times .exit)) (now (marks .exit)) r ⌝ }
 {
     let p = wide(c.processes);
     let f = first(axis, p + 2);
@@ -158,7 +164,8 @@ pub fn current_link(c: Counts, f: u32) -> u32
 pub fn wait(c: Counts, links: &mut [u32], axis: &mut [u32], times: &mut [u64], y: u32) -> Answer
     requires { ⌜ Takeable c (now axis) (now times) ⌝ }
     requires { ⌜ Sound (total c + 1) (now links) ⌝ }
-    ensures { λ r. ⌜ WaitMade c (waitStep c y (now (links .entry)) (sqs (now (axis .entry)) (now (times .entry)))) (now (links .exit)) (now (axis .exit)) (now (times .exit)) r ⌝ }
+    ensures { λ r. ⌜ WaitMade c (waitStep c y (now (links .entry)) (sqs (now (axis .entry)) (now (times .entry)))) (now (links .exit))
+        (now (axis .exit)) (now (times .exit)) r ⌝ }
 {
     let ok = head_or_none(c, y);
     if !ok {

@@ -1,4 +1,5 @@
-// Reading the time axis: m is P + 2, the axis's own head stands at m - 1, and a process's notice at its place. All other crates read it here.
+// Reading the time axis: m is P + 2, the axis's own head stands at m - 1, and a process's notice at its place. All other crates read it
+// here.
 use ring::wide;
 ghost use mathlib.Core.Path.{_≡_};
 ghost use Prim.Native.Nat.{_<_};

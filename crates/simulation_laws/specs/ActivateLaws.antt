@@ -26,8 +26,10 @@ use Rattle.simulation_laws.specs.NoticesKept.{some-in}
 use Rattle.simulation_laws.specs.PlacedLaws.{due-beside}
 use Rattle.simulation_laws.specs.StepPromise.{clause-in}
 use Rattle.simulation_laws.specs.AgreeEnds.{has-in, has-none}
-use Rattle.simulation_laws.specs.Plain.{withNotices, upTo, leaving, above, isDelay, dueFor, placed, noEffect, timedNeed, named, replaced, timed}
-use Rattle.simulation_laws.specs.Published.{unlessEmpty, clauseCode, clausePrior, evOut, newNotice, direct, atLeast, atTime, at, beforeOrAfter, byCode, ACTIVATE}
+use Rattle.simulation_laws.specs.Plain.{withNotices, upTo, leaving, above, isDelay, dueFor, placed, noEffect, timedNeed, named}
+use Rattle.simulation_laws.specs.Plain.{replaced, timed}
+use Rattle.simulation_laws.specs.Published.{unlessEmpty, clauseCode, clausePrior, evOut, newNotice, direct, atLeast, atTime, at}
+use Rattle.simulation_laws.specs.Published.{beforeOrAfter, byCode, ACTIVATE}
 use Rattle.simulation_laws.specs.RankLaws.{rank-behind, rank-front}
 
 pub error-is : (l : Lists) (ns : List Notice) → unlessEmpty l ns ≡ leaving l ns

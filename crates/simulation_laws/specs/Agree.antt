@@ -1,6 +1,6 @@
 -- Hold on tables that spell lists does what the plain call does to the lists, with the same refusals; and what agreeing means.
 use Prim.Native.Nat.{ℕ, suc, _+_, _-_, _≤_}
-use mathlib.Core.Path.{_≡_, refl, sym, _∙_, subst}
+use mathlib.Core.Path.{_≡_, refl, sym, _∙_, subst, ap}
 use mathlib.Core.Logic.{inl, inr}
 use mathlib.Core.Bool.{true, false}
 use mathlib.Core.List.{List, [], _∷_}
@@ -15,9 +15,9 @@ use Rattle.model.specs.declared.Counts.{Counts}
 use Rattle.model.specs.Counts.{limit}
 use Rattle.model.specs.declared.answer.Answer.the-variants.{Done, Refused}
 use Rattle.model_laws.specs.Notices.{Notice, InOrder}
-use Rattle.model_laws.specs.Tables.{Tables, Lists, Spells}
+use Rattle.model_laws.specs.Tables.{Tables, Lists, Spells, modelOf}
 use Rattle.model_laws.specs.Now.{timeOf, firstOf, half}
-use Rattle.model_laws.specs.Result.{done, refused, Result}
+use Rattle.model_laws.specs.Result.{done, refused, Result, Follows}
 use Rattle.simulation_laws.specs.NoticeOps.{behindAll}
 use Rattle.simulation_laws.specs.Plain.{withNotices, above, hold}
 use Rattle.simulation_laws.specs.NoticeLaws.{rest-drop}
@@ -32,10 +32,10 @@ use Rattle.simulation_laws.specs.Spots.{put-spells, found-spot}
 -- ---- what a call leaves, and what the machine answers
 
 abbrev pub withSqs : Tables → Sqs → Tables
-withSqs t a = record { links = t .links; axis = a .axis; times = a .times; marks = t .marks }
+withSqs t a = modelOf (t .links) (a .axis) (a .times) (t .marks)
 
 abbrev pub withMarks : Tables → List ℕ → Tables
-withMarks t l = record { links = t .links; axis = t .axis; times = t .times; marks = l }
+withMarks t l = modelOf (t .links) (t .axis) (t .times) l
 
 -- refused: the number, and the tables as they were; done: the tables spell the machine's next
 abbrev pub Agrees : Counts → Tables → Result Lists → Outcome → Type 0
@@ -89,7 +89,8 @@ module _ (c : Counts) (n : Notice) (ns : List Notice) (a : Sqs) (sp : SpellsTime
       rw first-is (rw (← (rest-drop n ns (once c (n ∷ ns) a sp))) at (drop-spells c (n ∷ ns) a sp (n .who) process-first))
 
   -- the first, due at u, stays first
-  pub stays-spells : (u : ℕ) → SpellsTime c (record { who = n .who; due = u } ∷ ns) (record { axis = a .axis; times = set (a .times) (firstOf m (a .axis)) u })
+  pub stays-spells : (u : ℕ) → SpellsTime c (record { who = n .who; due = u } ∷ ns)
+      (record { axis = a .axis; times = set (a .times) (firstOf m (a .axis)) u })
   stays-spells u =
       record {
         axis = sp .axis;
@@ -105,16 +106,19 @@ suc-none c n a sp =
     rw (first-is c n [] a sp)
     (sym (getD-take (half c) (a .axis) (n .who - c .heads) 0 (omega (arith, process-first c n [] a sp))) ∙ chain c (n ∷ []) a sp .1 .next)
 
-pub suc-some : (c : Counts) (n k : Notice) (ks : List Notice) (a : Sqs) → SpellsTime c (n ∷ k ∷ ks) a → nextOn a (firstOf (half c) (a .axis)) ≡ k .who - c .heads
+pub suc-some : (c : Counts) (n k : Notice) (ks : List Notice) (a : Sqs) → SpellsTime c (n ∷ k ∷ ks) a
+    → nextOn a (firstOf (half c) (a .axis)) ≡ k .who - c .heads
 suc-some c n k ks a sp =
     rw (first-is c n (k ∷ ks) a sp)
-    (sym (getD-take (half c) (a .axis) (n .who - c .heads) 0 (omega (arith, process-first c n (k ∷ ks) a sp))) ∙ chain c (n ∷ k ∷ ks) a sp .1 .0 .next)
+    (sym (getD-take (half c) (a .axis) (n .who - c .heads) 0 (omega (arith, process-first c n (k ∷ ks) a sp)))
+    ∙ chain c (n ∷ k ∷ ks) a sp .1 .0 .next)
 
 pub lone-yes : (c : Counts) (n : Notice) (a : Sqs) → SpellsTime c (n ∷ []) a → lone (half c) a ≡ true
 lone-yes c n a sp = eq-eqb _ _ (suc-none c n a sp)
 
 pub lone-no : (c : Counts) (n k : Notice) (ks : List Notice) (a : Sqs) → SpellsTime c (n ∷ k ∷ ks) a → lone (half c) a ≡ false
-lone-no c n k ks a sp = ne-eqb _ _ (λ e. off-head c (n ∷ k ∷ ks) a sp (k .who - c .heads) (inr (inl refl)) (sym (suc-some c n k ks a sp) ∙ e))
+lone-no c n k ks a sp = ne-eqb _ _ (λ e. off-head c (n ∷ k ∷ ks) a sp (k .who - c .heads) (inr (inl refl))
+    (sym (suc-some c n k ks a sp) ∙ e))
 
 -- ---- hold
 
@@ -132,13 +136,17 @@ held-spells c n (k ∷ ks) a u sp o =
     (λ l. rw (lone-no c n k ks a sp, e, lt-ltb u (k .due) l, lt-leb (k .due) u l) (stays-spells c n (k ∷ ks) a sp u))
     (λ l.
     let r : SpellsTime c (k ∷ ks) (dropOn (half c) (firstOf (half c) (a .axis)) a) = rest-spells c n (k ∷ ks) a sp in
-    let q : SpellsTime c (byDue (suc u) f (k ∷ ks)) (ranked (half c) (n .who - c .heads) u (dropOn (half c) (firstOf (half c) (a .axis)) a)) =
-    put-spells c (k ∷ ks) (dropOn (half c) (firstOf (half c) (a .axis)) a) r f (found (half c) (suc u) (dropOn (half c) (firstOf (half c) (a .axis)) a)) (byDue (suc u) f (k ∷ ks))
+    let q : SpellsTime c (byDue (suc u) f (k ∷ ks)) (ranked (half c) (n .who - c .heads) u
+    (dropOn (half c) (firstOf (half c) (a .axis)) a)) =
+    put-spells c (k ∷ ks) (dropOn (half c) (firstOf (half c) (a .axis)) a) r f
+    (found (half c) (suc u) (dropOn (half c) (firstOf (half c) (a .axis)) a)) (byDue (suc u) f (k ∷ ks))
     (process-first c n (k ∷ ks) a sp) (once c (n ∷ k ∷ ks) a sp .0)
     (found-spot c (k ∷ ks) (dropOn (half c) (firstOf (half c) (a .axis)) a) r f (suc u) (o .1)) in
     rw (lone-no c n k ks a sp, e, le-ltb u (k .due) l)
-    (subst (λ (z : ℕ). SpellsTime c (behindAll f (k ∷ ks)) (ranked (half c) z u (dropOn (half c) (firstOf (half c) (a .axis)) a))) (sym (first-is c n (k ∷ ks) a sp))
-    (subst (λ (l : List Notice). SpellsTime c l (ranked (half c) (n .who - c .heads) u (dropOn (half c) (firstOf (half c) (a .axis)) a))) (by-behind f (k ∷ ks)) q)))
+    (subst (λ (z : ℕ). SpellsTime c (behindAll f (k ∷ ks)) (ranked (half c) z u (dropOn (half c) (firstOf (half c) (a .axis)) a)))
+    (sym (first-is c n (k ∷ ks) a sp))
+    (subst (λ (l : List Notice). SpellsTime c l (ranked (half c) (n .who - c .heads) u (dropOn (half c) (firstOf (half c) (a .axis)) a)))
+    (by-behind f (k ∷ ks)) q)))
 
 module _ (c : Counts) (M : Lists) (t : Tables) (sp : Spells c M t) (n : Notice) (ns : List Notice) (e : M .notices ≡ n ∷ ns) where
   abbrev a : Sqs
@@ -162,5 +170,21 @@ module _ (c : Counts) (M : Lists) (t : Tables) (sp : Spells c M t) (n : Notice) 
   hold-agrees z =
       rw (e, time-is c n ns a st)
       (test (leb (n .due + above z) limit)
-      (λ l. rw l (refl, respell c M t sp _ _ (held-kept (n .due + above z) (leb-true _ _ l)) (held-spells c n ns a (n .due + above z) st (kt .in-order))))
+      (λ l. rw l (
+        refl,
+        respell c M t sp _ _ (held-kept (n .due + above z) (leb-true _ _ l))
+            (held-spells c n ns a (n .due + above z) st (kt .in-order)),
+      ))
       (λ l. rw l (refl, refl)))
+
+-- ---- so the call leaves what the list has
+
+pub follows-sqs : (c : Counts) (t : Tables) (r : Result Lists) (o : Outcome) → Agrees c t r o
+    → Follows c t r (record { tables = withSqs t (o .left); answer = o .answer })
+follows-sqs c t (refused r) o g = (g .0, ap (withSqs t) (g .1))
+follows-sqs c t (done l) o g = g
+
+pub follows-marks : (c : Counts) (t : Tables) (r : Result Lists) (o : Outcome) (k : List ℕ) → AgreesMarked c t r o k
+    → Follows c t r (record { tables = withMarks (withSqs t (o .left)) k; answer = o .answer })
+follows-marks c t (refused r) o k g = (g .0, λ i. withMarks (withSqs t (g .1 i)) (g .2 i))
+follows-marks c t (done l) o k g = g

@@ -29,7 +29,8 @@ use Rattle.simulation_laws.specs.NoticesKept.{NoticesKept, some-in, kept
 use Rattle.simulation_laws.specs.Procedures.{Sqs, made, turnedDown, idleAt, lone, dropOn, passivated, cancelled, finishedMarks}
 use Rattle.simulation_laws.specs.ByDue.{listed-set}
 use Rattle.simulation_laws.specs.Places.{SpellsTime, Process, once, is-process, linked, idle-is, drop-spells}
-use Rattle.simulation_laws.specs.Agree.{withSqs, Agrees, AgreesMarked, respell, first-is, process-first, rest-spells, lone-yes, lone-no, st, kt}
+use Rattle.simulation_laws.specs.Agree.{withSqs, Agrees, AgreesMarked, respell, first-is, process-first, rest-spells, lone-yes}
+use Rattle.simulation_laws.specs.Agree.{lone-no, st, kt}
 use Rattle.simulation_laws.specs.Calls.{sqsOf}
 
 -- x may be terminated
@@ -46,7 +47,10 @@ party c x e =
     decide x 0
     (λ q. Party.none q)
     (λ n. let f : isProcess c x ≡ true = rw (ne-eqb x 0 n) at e in
-    Party.proc (record { over = ltb-true (c .heads) x (and-left (ltb (c .heads) x) _ f); upto = leb-true x (c .heads + c .processes) (and-right (ltb (c .heads) x) _ f) }))
+    Party.proc (record {
+      over = ltb-true (c .heads) x (and-left (ltb (c .heads) x) _ f);
+      upto = leb-true x (c .heads + c .processes) (and-right (ltb (c .heads) x) _ f);
+    }))
 
 pub has-in : (y : ℕ) (ns : List Notice) → hasNotice y ns ≡ true → In y (whos ns)
 has-in y [] e = clash e
@@ -83,10 +87,12 @@ module _ (c : Counts) (ns : List Notice) (a : Sqs) (sp : SpellsTime c ns a) wher
 module _ (c : Counts) (M : Lists) (t : Tables) (sp : Spells c M t) (n : Notice) (ns : List Notice) (e : M .notices ≡ n ∷ ns) where
   pub passivate-agrees : Agrees c t (passivate M) (passivated (half c) (sqsOf t))
   unfolding passivate passivated
-  passivate-agrees = subst (λ (l : List Notice). Agrees c t (leaving M (rest l)) (passivated (half c) (sqsOf t))) (sym e) (go ns (kt c M t sp n ns e) (st c M t sp n ns e))
+  passivate-agrees = subst (λ (l : List Notice). Agrees c t (leaving M (rest l)) (passivated (half c) (sqsOf t))) (sym e)
+      (go ns (kt c M t sp n ns e) (st c M t sp n ns e))
     where
       go : (ns : List Notice) → NoticesKept (M .terminated) (n ∷ ns) → SpellsTime c (n ∷ ns) (sqsOf t)
-          → Agrees c t (leaving M ns) (if lone (half c) (sqsOf t) then turnedDown NoNotice (sqsOf t) else made (dropOn (half c) (firstOf (half c) (t .axis)) (sqsOf t)))
+          → Agrees c t (leaving M ns)
+          (if lone (half c) (sqsOf t) then turnedDown NoNotice (sqsOf t) else made (dropOn (half c) (firstOf (half c) (t .axis)) (sqsOf t)))
       go [] w s = rw (lone-yes c n (sqsOf t) s) (refl, refl)
       go (k ∷ ks) w s =
           rw (lone-no c n k ks (sqsOf t) s)
@@ -97,18 +103,23 @@ module _ (c : Counts) (M : Lists) (t : Tables) (sp : Spells c M t) (n : Notice) 
   unfolding cancelled
   drop-agrees x p =
       test (hasNotice x (n ∷ ns))
-      (λ h. rw (idle-has c (n ∷ ns) (sqsOf t) (st c M t sp n ns e) x p, h) (some ns (kt c M t sp n ns e) (st c M t sp n ns e) (has-in x (n ∷ ns) h)))
+      (λ h. rw (idle-has c (n ∷ ns) (sqsOf t) (st c M t sp n ns e) x p, h)
+      (some ns (kt c M t sp n ns e) (st c M t sp n ns e) (has-in x (n ∷ ns) h)))
       (λ h.
       rw (idle-has c (n ∷ ns) (sqsOf t) (st c M t sp n ns e) x p, h, drop-none x (n ∷ ns) (has-none x (n ∷ ns) h))
       (refl, respell c M t sp (n ∷ ns) (sqsOf t) (kt c M t sp n ns e) (st c M t sp n ns e)))
     where
       some : (ns : List Notice) → NoticesKept (M .terminated) (n ∷ ns) → SpellsTime c (n ∷ ns) (sqsOf t) → In x (whos (n ∷ ns))
-          → Agrees c t (leaving M (dropped x (n ∷ ns))) (if lone (half c) (sqsOf t) then turnedDown NoNotice (sqsOf t) else made (dropOn (half c) (x - c .heads) (sqsOf t)))
+          → Agrees c t (leaving M (dropped x (n ∷ ns)))
+          (if lone (half c) (sqsOf t) then turnedDown NoNotice (sqsOf t) else made (dropOn (half c) (x - c .heads) (sqsOf t)))
       some [] w s (inl q) = rw (lone-yes c n (sqsOf t) s, eq-eqb (n .who) x (sym q)) (refl, refl)
       some [] w s (inr i) = absurd i
       some (k ∷ ks) w s i =
-          let r : 0 < length (dropped x (n ∷ k ∷ ks)) → Spells c (withNotices M (dropped x (n ∷ k ∷ ks))) (withSqs t (dropOn (half c) (x - c .heads) (sqsOf t))) =
-          λ l. respell c M t sp (dropped x (n ∷ k ∷ ks)) (dropOn (half c) (x - c .heads) (sqsOf t)) (kept-drop (M .terminated) (n ∷ k ∷ ks) w x l) (drop-spells c (n ∷ k ∷ ks) (sqsOf t) s x (is-process c (n ∷ k ∷ ks) (sqsOf t) s x i)) in
+          let r : 0 < length (dropped x (n ∷ k ∷ ks)) → Spells c (withNotices M (dropped x (n ∷ k ∷ ks)))
+          (withSqs t (dropOn (half c) (x - c .heads) (sqsOf t))) =
+          λ l. respell c M t sp (dropped x (n ∷ k ∷ ks)) (dropOn (half c) (x - c .heads) (sqsOf t))
+          (kept-drop (M .terminated) (n ∷ k ∷ ks) w x l) (drop-spells c (n ∷ k ∷ ks) (sqsOf t) s x
+          (is-process c (n ∷ k ∷ ks) (sqsOf t) s x i)) in
           rw (lone-no c n k ks (sqsOf t) s)
           (decide (n .who) x
           (λ q.
@@ -121,23 +132,29 @@ module _ (c : Counts) (M : Lists) (t : Tables) (sp : Spells c M t) (n : Notice) 
   pub cancel-agrees : (x : ℕ) → orNone (isProcess c x) x ≡ true → Agrees c t (cancel c x M) (cancelled (half c) (x - c .heads) (sqsOf t))
   unfolding cancel
   cancel-agrees x g =
-      rw g (subst (λ (l : List Notice). Agrees c t (leaving M (dropped x l)) (cancelled (half c) (x - c .heads) (sqsOf t))) (sym e) (drop-agrees x (party c x g)))
+      rw g (subst (λ (l : List Notice). Agrees c t (leaving M (dropped x l)) (cancelled (half c) (x - c .heads) (sqsOf t))) (sym e)
+      (drop-agrees x (party c x g)))
 
-  marks-set : (x : ℕ) → Process c x → set (t .marks) (x - c .heads) 1 ≡ 0 ∷ listed (λ p. bit (has (c .heads + p) (x ∷ M .terminated))) 1 (c .processes)
+  marks-set : (x : ℕ) → Process c x → set (t .marks) (x - c .heads) 1
+      ≡ 0 ∷ listed (λ p. bit (has (c .heads + p) (x ∷ M .terminated))) 1 (c .processes)
   marks-set x p =
       let k = x - c .heads - 1 in
       let h : x - c .heads ≡ suc k = omega (arith, p) in
       let g : c .heads + (1 + k) ≡ x = omega (arith, p) in
       rw (sp .marks, h)
       (ap (λ (r : List ℕ). 0 ∷ r)
-      (listed-set (λ j. bit (has (c .heads + j) (M .terminated))) (λ j. bit (has (c .heads + j) (x ∷ M .terminated))) (c .processes) 1 k 1 (omega (arith, p))
+      (listed-set (λ j. bit (has (c .heads + j) (M .terminated))) (λ j. bit (has (c .heads + j) (x ∷ M .terminated))) (c .processes) 1 k 1
+      (omega (arith, p))
       (rw (eq-eqb x (c .heads + (1 + k)) (sym g)))
       (λ j d. rw (ne-eqb x (c .heads + j) (λ q. d (omega arith))))))
 
-  pub finish-agrees : not (eqb (current M) (main c)) ≡ true → AgreesMarked c t (finish c M) (passivated (half c) (sqsOf t)) (finishedMarks (half c) (t .marks) (sqsOf t))
+  pub finish-agrees : not (eqb (current M) (main c)) ≡ true
+      → AgreesMarked c t (finish c M) (passivated (half c) (sqsOf t)) (finishedMarks (half c) (t .marks) (sqsOf t))
   unfolding finish passivated finishedMarks
   finish-agrees g =
-      rw g (subst (λ (l : List Notice). AgreesMarked c t (leaving (withTerminated M (first l .who ∷ M .terminated)) (rest l)) (passivated (half c) (sqsOf t)) (finishedMarks (half c) (t .marks) (sqsOf t))) (sym e) (go ns (kt c M t sp n ns e) (st c M t sp n ns e)))
+      rw g (subst (λ (l : List Notice). AgreesMarked c t (leaving (withTerminated M (first l .who ∷ M .terminated)) (rest l))
+      (passivated (half c) (sqsOf t)) (finishedMarks (half c) (t .marks) (sqsOf t))) (sym e)
+      (go ns (kt c M t sp n ns e) (st c M t sp n ns e)))
     where
       own : Process c (n .who) → (ns : List Notice) → (In (n .who) (whos ns) → ⊥) → Ended c (n .who) ns
       own p ns f = (p .over, p .upto, λ q. off q, f)
@@ -146,7 +163,8 @@ module _ (c : Counts) (M : Lists) (t : Tables) (sp : Spells c M t) (n : Notice) 
           off q = clash (sym (rw (e, eq-eqb (n .who) (main c) q)) ∙ g)
 
       go : (ns : List Notice) → NoticesKept (M .terminated) (n ∷ ns) → SpellsTime c (n ∷ ns) (sqsOf t)
-          → AgreesMarked c t (leaving (withTerminated M (n .who ∷ M .terminated)) ns) (passivated (half c) (sqsOf t)) (finishedMarks (half c) (t .marks) (sqsOf t))
+          → AgreesMarked c t (leaving (withTerminated M (n .who ∷ M .terminated)) ns) (passivated (half c) (sqsOf t))
+          (finishedMarks (half c) (t .marks) (sqsOf t))
       go [] w s = rw (lone-yes c n (sqsOf t) s) (refl, refl, refl)
       go (k ∷ ks) w s =
           let r : SpellsTime c (k ∷ ks) (dropOn (half c) (firstOf (half c) (t .axis)) (sqsOf t)) = rest-spells c n (k ∷ ks) (sqsOf t) s in
@@ -161,7 +179,8 @@ module _ (c : Counts) (M : Lists) (t : Tables) (sp : Spells c M t) (n : Notice) 
               in-order = w .in-order .1;
               within = w .within .1;
               ended = λ x i. ⊎-elim
-                  (λ q. subst (λ (j : ℕ). Ended c j (k ∷ ks)) (sym q) (own (process-first c n (k ∷ ks) (sqsOf t) s) (k ∷ ks) (once c (n ∷ k ∷ ks) (sqsOf t) s .0)))
+                  (λ q. subst (λ (j : ℕ). Ended c j (k ∷ ks)) (sym q) (own (process-first c n (k ∷ ks) (sqsOf t) s) (k ∷ ks)
+                  (once c (n ∷ k ∷ ks) (sqsOf t) s .0)))
                   (λ j. let e = sp .ended x j in (e .0, e .1, e .2, λ g. w .idle x j (inr g)))
                   i;
             },
@@ -180,4 +199,5 @@ module _ (c : Counts) (M : Lists) (t : Tables) (sp : Spells c M t) (n : Notice) 
   pub wait-agrees : (y : ℕ) (M₀ : Lists) → orNone (isHead c y) y ≡ true → M ≡ withSets M₀ (precedeSets (current M₀) y (M₀ .sets))
       → Agrees c t (wait c y M₀) (passivated (half c) (sqsOf t))
   unfolding wait passivate
-  wait-agrees y M₀ g q = rw g (subst (λ (k : Lists). Agrees c t (leaving k (rest (k .notices))) (passivated (half c) (sqsOf t))) q (passivate-agrees c M t sp n ns e))
+  wait-agrees y M₀ g q = rw g (subst (λ (k : Lists). Agrees c t (leaving k (rest (k .notices))) (passivated (half c) (sqsOf t))) q
+      (passivate-agrees c M t sp n ns e))

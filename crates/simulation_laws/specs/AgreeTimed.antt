@@ -7,7 +7,7 @@ use native.Mathlib.Omega.{arith}
 use lib.Dec.{leb, ltb, eqb}
 use lib.IntN.{ℤ, pos, negsuc, _+ℤ_}
 use lib.ListN.{getD}
-use borrow.Author.Tests.{eq-eqb, ne-eqb, eqb-true, eqb-false, le-leb, leb-true}
+use borrow.Author.Tests.{eq-eqb, ne-eqb, eqb-false, le-leb, leb-true}
 use Rattle.ring_laws.specs.Lists.{clash, if_then_else_, In, decide, test}
 use Rattle.ring_laws.specs.Tabulate.{has, bit, listed-at}
 use Rattle.model.specs.declared.Counts.{Counts}
@@ -24,13 +24,12 @@ use Rattle.simulation_laws.specs.Plain.{withNotices, above, leaving, due
 use Rattle.simulation_laws.specs.NoticeLaws.{ins-new, drop-in, drop-gone, drop-old, drop-sorted, drop-from, drop-due}
 use Rattle.simulation_laws.specs.BesideLaws.{before-none, after-none}
 use Rattle.simulation_laws.specs.NoticesKept.{NoticesKept, kept-ins, dropped-within, dropped-idle}
-use Rattle.simulation_laws.specs.PutLaws.{front-first}
 use Rattle.simulation_laws.specs.Replace.{timedDropFirst}
 use Rattle.simulation_laws.specs.PlacedLaws.{placed-sorted, due-beside, not-ended, others-y}
-use Rattle.simulation_laws.specs.Procedures.{Sqs, made, idleAt, found, dropOn, cancelled, vain, dueAt, placeFor, putByClause, activated}
-use Rattle.simulation_laws.specs.ByDue.{by-behind, by-front}
+use Rattle.simulation_laws.specs.Procedures.{Sqs, made, idleAt, dropOn, cancelled, vain, dueAt, putByClause}
+use Rattle.simulation_laws.specs.Procedures.{activated}
 use Rattle.simulation_laws.specs.Places.{SpellsTime, Process, is-process, times-at, drop-spells}
-use Rattle.simulation_laws.specs.Spots.{Spot, put-spells, found-spot, first-spot, after-spot, before-spot}
+use Rattle.simulation_laws.specs.Spots.{Spot, put-spells, place-spot}
 use Rattle.simulation_laws.specs.Agree.{Agrees, its-time, its-kept, respell, st, time-is}
 use Rattle.simulation_laws.specs.AgreeEnds.{Party, party, has-in, has-none, idle-has, drop-agrees}
 use Rattle.simulation_laws.specs.Calls.{sqsOf}
@@ -56,21 +55,6 @@ and-tail false b d f = refl
 from-first : (n : Notice) (ns : List Notice) → InOrder (n ∷ ns) → From (n .due) (n ∷ ns)
 from-first n ns o = (omega arith, o .0)
 
--- ---- where the new notice stands, x's old one being gone
-
-pub place-spot : (c : Counts) (l : List Notice) (b : Sqs) → SpellsTime c l b → InOrder l → (k y now : ℕ) (n : Notice) → k ≤ 6
-    → (5 ≤ k → In y (whos l)) → From now l → Spot c l n (placeFor (half c) k (y - c .heads) now (n .due) b) (placed k y n l)
-unfolding placeFor placed
-place-spot c l b sp o k y now n k6 on f =
-    test (eqb k 5) (λ e. rw e (before-spot c l b sp n y (on (omega (arith, eqb-true k 5 e))))) (λ e5.
-    test (eqb k 6) (λ e. rw (e5, e) (after-spot c l b sp n y (on (omega (arith, eqb-true k 6 e))))) (λ e6.
-    test (eqb k 1 || eqb k 2)
-    (λ e. rw (e5, e6, e) (subst (λ (r : List Notice). Spot c l n (found (half c) (suc (n .due)) b) r) (by-behind n l) (found-spot c l b sp n (suc (n .due)) o)))
-    (λ e.
-    test (eqb (n .due) now)
-    (λ q. rw (e5, e6, e, q) (subst (λ (r : List Notice). Spot c l n (half c - 1) r) (sym (front-first n now l (omega (arith, eqb-true (n .due) now q)) f)) (first-spot c l b sp n)))
-    (λ q. rw (e5, e6, e, q) (subst (λ (r : List Notice). Spot c l n (found (half c) (n .due) b) r) (by-front n l) (found-spot c l b sp n (n .due) o))))))
-
 module _ (c : Counts) (M : Lists) (t : Tables) (sp : Spells c M t) (n : Notice) (ns : List Notice) (e : M .notices ≡ n ∷ ns) where
   abbrev a : Sqs
   a = sqsOf t
@@ -89,7 +73,8 @@ module _ (c : Counts) (M : Lists) (t : Tables) (sp : Spells c M t) (n : Notice) 
       let h : x - c .heads ≡ suc (x - c .heads - 1) = omega (arith, p) in
       let f : c .heads + (1 + (x - c .heads - 1)) ≡ x = omega (arith, p) in
       rw (sp .marks, h)
-      (listed-at (λ j. bit (has (c .heads + j) (M .terminated))) 0 (c .processes) 1 (x - c .heads - 1) (omega (arith, p)) ∙ ap (λ (j : ℕ). bit (has j (M .terminated))) f)
+      (listed-at (λ j. bit (has (c .heads + j) (M .terminated))) 0 (c .processes) 1 (x - c .heads - 1) (omega (arith, p))
+      ∙ ap (λ (j : ℕ). bit (has j (M .terminated))) f)
 
   -- each process's time, and 0 for none
   pub due-of : (y : ℕ) → Party c y → getD (t .times) (y - c .heads) 0 ≡ dueOf y (M .notices)
@@ -98,7 +83,8 @@ module _ (c : Counts) (M : Lists) (t : Tables) (sp : Spells c M t) (n : Notice) 
       rw (sp .times, z) (sym (due-none (M .notices) y (λ i. omega (arith, is-process c (M .notices) a spt y i))))
   due-of y (Party.proc p) = times-at c (M .notices) a spt y p
 
-  pub due-is : (k y : ℕ) (z : ℤ) → (5 ≤ k → Party c y) → dueAt k (y - c .heads) (above z) (timeOf m (a .axis) (a .times)) (a .times) ≡ dueFor k y z M
+  pub due-is : (k y : ℕ) (z : ℤ) → (5 ≤ k → Party c y) → dueAt k (y - c .heads) (above z) (timeOf m (a .axis) (a .times)) (a .times)
+      ≡ dueFor k y z M
   unfolding dueAt dueFor
   due-is k y z g =
       test (eqb k 0) (λ q. rw q time-here) (λ q.
@@ -114,14 +100,19 @@ module _ (c : Counts) (M : Lists) (t : Tables) (sp : Spells c M t) (n : Notice) 
       (λ f. rw (eq-eqb x y f, eq-eqb (x - c .heads) (y - c .heads) (ap (λ (j : ℕ). j - c .heads) f)))
       (λ d. rw (ne-eqb x y d, ne-eqb (x - c .heads) (y - c .heads) (λ f. d (omega (arith, p, r)))))
 
-  pub vain-is : (again : Bool) (k x y : ℕ) → Party c x → (5 ≤ k → Party c y) → vain again k (x - c .heads) (y - c .heads) (t .marks) (t .axis) ≡ noEffect again k x y M
+  pub vain-is : (again : Bool) (k x y : ℕ) → Party c x → (5 ≤ k → Party c y)
+      → vain again k (x - c .heads) (y - c .heads) (t .marks) (t .axis) ≡ noEffect again k x y M
   unfolding vain noEffect
   vain-is again k x y (Party.none q) g = rw (eq-eqb x 0 q, eq-eqb (x - c .heads) 0 (omega arith))
   vain-is again k x y (Party.proc p) g =
-      let ea : eqb (x - c .heads) 0 ≡ eqb x 0 = ne-eqb (x - c .heads) 0 (λ f. omega (arith, p)) ∙ sym (ne-eqb x 0 (λ f. omega (arith, p))) in
-      let eb : not (eqb (getD (t .marks) (x - c .heads) 0) 0) ≡ has x (M .terminated) = ap (λ (j : ℕ). not (eqb j 0)) (marks-at x p) ∙ bit-not (has x (M .terminated)) in
-      let ec : not (idleAt a (x - c .heads)) ≡ hasNotice x (M .notices) = ap not (idle-has c (M .notices) a spt x (Party.proc p)) ∙ not-not (hasNotice x (M .notices)) in
-      let ed : (leb 5 k && eqb (x - c .heads) (y - c .heads)) ≡ (leb 5 k && eqb x y) = and-tail (leb 5 k) _ _ (λ l. same-party x y p (g (leb-true 5 k l))) in
+      let ea : eqb (x - c .heads) 0 ≡ eqb x 0 = ne-eqb (x - c .heads) 0 (λ f. omega (arith, p))
+      ∙ sym (ne-eqb x 0 (λ f. omega (arith, p))) in
+      let eb : not (eqb (getD (t .marks) (x - c .heads) 0) 0) ≡ has x (M .terminated) =
+      ap (λ (j : ℕ). not (eqb j 0)) (marks-at x p) ∙ bit-not (has x (M .terminated)) in
+      let ec : not (idleAt a (x - c .heads)) ≡ hasNotice x (M .notices) =
+      ap not (idle-has c (M .notices) a spt x (Party.proc p)) ∙ not-not (hasNotice x (M .notices)) in
+      let ed : (leb 5 k && eqb (x - c .heads) (y - c .heads)) ≡ (leb 5 k && eqb x y) =
+      and-tail (leb 5 k) _ _ (λ l. same-party x y p (g (leb-true 5 k l))) in
       rw (ea, eb, ec, ed)
 
   not-placed : (k x y u : ℕ) → 5 ≤ k → k ≤ 6 → hasNotice y (M .notices) ≡ false
@@ -153,24 +144,37 @@ module _ (c : Counts) (M : Lists) (t : Tables) (sp : Spells c M t) (n : Notice) 
       let l : 5 ≤ k = leb-true 5 k (and-left (leb 5 k) _ q) in
       let h : hasNotice y (M .notices) ≡ false =
       not-true′ (hasNotice y (M .notices)) (sym (idle-has c (M .notices) a spt y (g l)) ∙ and-right (leb 5 k) _ q) in
-      rw (q, not-placed k x y u l k6 h) (subst (λ (l : List Notice). Agrees c t (leaving M (dropped x l)) (cancelled m (x - c .heads) a)) (sym e) (drop-agrees c M t sp n ns e x (Party.proc p))))
+      rw (q, not-placed k x y u l k6 h) (subst (λ (l : List Notice). Agrees c t (leaving M (dropped x l)) (cancelled m (x - c .heads) a))
+      (sym e) (drop-agrees c M t sp n ns e x (Party.proc p))))
       (λ q.
       let on : 5 ≤ k → In y (whos (dropped x (M .notices))) =
-      λ l. stands l (test (hasNotice y (M .notices)) (λ h. h) (λ h. clash (sym (rw (le-leb 5 k l, idle-has c (M .notices) a spt y (g l), h) at q)))) in
-      let s = place-spot c (dropped x (M .notices)) (dropOn m (x - c .heads) a) (drop-spells c (M .notices) a spt x p) (drop-sorted x (M .notices) (kept .in-order)) k y (timeOf m (a .axis) (a .times)) (record { who = x; due = u }) k6
+      λ l. stands l (test (hasNotice y (M .notices)) (λ h. h)
+      (λ h. clash (sym (rw (le-leb 5 k l, idle-has c (M .notices) a spt y (g l), h) at q)))) in
+      let s = place-spot c (dropped x (M .notices)) (dropOn m (x - c .heads) a) (drop-spells c (M .notices) a spt x p)
+      (drop-sorted x (M .notices) (kept .in-order)) k y (timeOf m (a .axis) (a .times)) (record { who = x; due = u }) k6
       on
       (drop-from x (timeOf m (a .axis) (a .times)) (M .notices) (rw time-here (rw e (from-first n ns (rw e at (kept .in-order)))))) in
-      rw (q, leaving-some x (placed k y (record { who = x; due = u }) (dropped x (M .notices))) (ins-new (record { who = x; due = u }) (s .puts)))
-      (refl, respell c M t sp _ _ (stays on s) (put-spells c (dropped x (M .notices)) (dropOn m (x - c .heads) a) (drop-spells c (M .notices) a spt x p) (record { who = x; due = u }) _ _ p (λ i. drop-gone x (M .notices) x i refl) s)))
+      rw (
+        q,
+        leaving-some x (placed k y (record { who = x; due = u }) (dropped x (M .notices)))
+            (ins-new (record { who = x; due = u }) (s .puts)),
+      ) (
+        refl,
+        respell c M t sp _ _ (stays on s) (put-spells c (dropped x (M .notices)) (dropOn m (x - c .heads) a)
+            (drop-spells c (M .notices) a spt x p) (record { who = x; due = u }) _ _ p (λ i. drop-gone x (M .notices) x i refl) s),
+      ))
     where
       not-true′ : (b : Bool) → not b ≡ true → b ≡ false
       not-true′ true q = sym q
       not-true′ false q = refl
 
-      stays : (5 ≤ k → In y (whos (dropped x (M .notices)))) → {q : ℕ} → Spot c (dropped x (M .notices)) (record { who = x; due = u }) q (placed k y (record { who = x; due = u }) (dropped x (M .notices)))
+      stays : (5 ≤ k → In y (whos (dropped x (M .notices)))) → {q : ℕ}
+          → Spot c (dropped x (M .notices)) (record { who = x; due = u }) q
+          (placed k y (record { who = x; due = u }) (dropped x (M .notices)))
           → NoticesKept (M .terminated) (placed k y (record { who = x; due = u }) (dropped x (M .notices)))
       stays on s =
-          kept-ins (M .terminated) (record { who = x; due = u }) (dropped x (M .notices)) (placed k y (record { who = x; due = u }) (dropped x (M .notices)))
+          kept-ins (M .terminated) (record { who = x; due = u }) (dropped x (M .notices))
+          (placed k y (record { who = x; due = u }) (dropped x (M .notices)))
           (s .puts)
           (placed-sorted k y (record { who = x; due = u }) (dropped x (M .notices))
           (λ h. (on h, ud h ∙ sym (drop-due x (M .notices) y (drop-gone x (M .notices) y (on h)))))
@@ -194,13 +198,15 @@ module _ (c : Counts) (M : Lists) (t : Tables) (sp : Spells c M t) (n : Notice) 
   timed-agrees again k x y z g =
       let px : Party c x = party c x (and-right (leb k 6) _ (and-left (leb k 6 && orNone (isProcess c x) x) _ g)) in
       let k6 : k ≤ 6 = leb-true k 6 (and-left (leb k 6) _ (and-left (leb k 6 && orNone (isProcess c x) x) _ g)) in
-      let py : 5 ≤ k → Party c y = λ l. party c y (or-need (leb 5 k) (orNone (isProcess c y) y) (le-leb 5 k l) (and-right (leb k 6 && orNone (isProcess c x) x) _ g)) in
+      let py : 5 ≤ k → Party c y = λ l. party c y (or-need (leb 5 k) (orNone (isProcess c y) y) (le-leb 5 k l)
+      (and-right (leb k 6 && orNone (isProcess c x) x) _ g)) in
       rw (g, vain-is again k x y px py, due-is k y z py)
       (test (noEffect again k x y M)
       (λ q. rw q (refl, sp))
       (λ q. rw q
       (test (leb (dueFor k y z M) limit)
-      (λ l. rw l (effective again k x y (dueFor k y z M) (its-process again k x y px q) py k6 (leb-true _ _ l) (λ h. due-beside k y z M h) q))
+      (λ l. rw l (effective again k x y (dueFor k y z M) (its-process again k x y px q) py k6 (leb-true _ _ l) (λ h. due-beside k y z M h)
+      q))
       (λ l. rw l (refl, refl)))))
     where
       or-need : (b d : Bool) → b ≡ true → (not b || d) ≡ true → d ≡ true

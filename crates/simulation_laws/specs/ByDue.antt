@@ -70,7 +70,8 @@ module _ (c : Counts) (w : ℕ) (n : Notice) where
 
 -- ---- a listed table after one store
 
-pub listed-set : (f g : ℕ → ℕ) (n i k v : ℕ) → k < n → g (i + k) ≡ v → ((j : ℕ) → j ≢ i + k → g j ≡ f j) → set (listed f i n) k v ≡ listed g i n
+pub listed-set : (f g : ℕ → ℕ) (n i k v : ℕ) → k < n → g (i + k) ≡ v → ((j : ℕ) → j ≢ i + k → g j ≡ f j)
+    → set (listed f i n) k v ≡ listed g i n
 listed-set f g zero i k v l e h = absurd (not-suc-le-zero l)
 listed-set f g (suc n) i zero v l e h =
     let z : i + 0 ≡ i = omega arith in

@@ -11,12 +11,13 @@ use Rattle.model.specs.declared.Refusal.the-variants.{Operand, NoNotice, Idle}
 use Rattle.model.specs.Counts.{total, isHead, isProcess, placeOf, linkageAt}
 use Rattle.model.specs.declared.answer.Answer.{Answer}
 use Rattle.model.specs.declared.answer.Answer.the-variants.{Linkage, Number, Truth, Refused}
-use Rattle.model_laws.specs.Tables.{Tables, After}
+use Rattle.model_laws.specs.Tables.{Tables, After, modelOf}
 use Rattle.model_laws.specs.Now.{half, timeOf, firstOf}
 use Rattle.simset_laws.specs.Calls.{orNone, toldIf}
 use Rattle.simset_laws.specs.Procedures.{preceded}
 use Rattle.simulation_laws.specs.Plain.{above, timedNeed}
-use Rattle.simulation_laws.specs.Procedures.{Sqs, Outcome, made, turnedDown, nextOn, idleAt, lone, dropOn, held, passivated, cancelled, finishedMarks, activated}
+use Rattle.simulation_laws.specs.Procedures.{Sqs, Outcome, made, turnedDown, nextOn, idleAt, lone, dropOn, held, passivated}
+use Rattle.simulation_laws.specs.Procedures.{cancelled, finishedMarks, activated}
 
 -- ---- calls that change the sequencing set alone
 
@@ -58,7 +59,10 @@ unfoldable pub waitStep : Counts → ℕ → List ℕ → Sqs → Waited
 waitStep c y links a =
     if orNone (isHead c y) y then
     (if lone (half c) a then record { links = links; outcome = turnedDown NoNotice a }
-    else record { links = preceded (total c + 1) (linkageAt c (firstOf (half c) (a .axis))) y links; outcome = made (dropOn (half c) (firstOf (half c) (a .axis)) a) })
+    else record {
+      links = preceded (total c + 1) (linkageAt c (firstOf (half c) (a .axis))) y links;
+      outcome = made (dropOn (half c) (firstOf (half c) (a .axis)) a);
+    })
     else record { links = links; outcome = turnedDown Operand a }
 
 -- ---- queries: a process is read, so none is refused
@@ -97,7 +101,7 @@ abbrev pub onSqs : (List ℕ → Sqs → Outcome) → Tables → After Answer
 onSqs f t =
     let o = f (t .marks) (sqsOf t) in
     record {
-      tables = record { links = t .links; axis = o .left .axis; times = o .left .times; marks = t .marks };
+      tables = modelOf (t .links) (o .left .axis) (o .left .times) (t .marks);
       answer = o .answer;
     }
 
@@ -105,7 +109,7 @@ abbrev pub onMarks : (List ℕ → Sqs → Marked) → Tables → After Answer
 onMarks f t =
     let o = f (t .marks) (sqsOf t) in
     record {
-      tables = record { links = t .links; axis = o .outcome .left .axis; times = o .outcome .left .times; marks = o .marks };
+      tables = modelOf (t .links) (o .outcome .left .axis) (o .outcome .left .times) (o .marks);
       answer = o .outcome .answer;
     }
 
@@ -113,6 +117,6 @@ abbrev pub onSets : (List ℕ → Sqs → Waited) → Tables → After Answer
 onSets f t =
     let o = f (t .links) (sqsOf t) in
     record {
-      tables = record { links = o .links; axis = o .outcome .left .axis; times = o .outcome .left .times; marks = t .marks };
+      tables = modelOf (o .links) (o .outcome .left .axis) (o .outcome .left .times) (t .marks);
       answer = o .outcome .answer;
     }

@@ -19,7 +19,8 @@ use Rattle.simset_laws.specs.Calls.{orNone}
 use Rattle.simset_laws.specs.Sets.{precedeSets}
 use Rattle.simset_laws.specs.Plain.{withSets}
 use Rattle.simulation_laws.specs.NoticeOps.{behindAll, dropped, hasNotice, rest}
-use Rattle.simulation_laws.specs.Plain.{withNotices, withTerminated, above, leaving, upTo, hold, passivate, wait, cancel, finish, dueFor, placed, noEffect, timedNeed, timed}
+use Rattle.simulation_laws.specs.Plain.{withNotices, withTerminated, above, leaving, upTo, hold, passivate, wait, cancel, finish}
+use Rattle.simulation_laws.specs.Plain.{dueFor, placed, noEffect, timedNeed, timed}
 use Rattle.simulation_laws.specs.NoticeLaws.{drop-in, ins-from, from-due, drop-from}
 use Rattle.simulation_laws.specs.PutLaws.{last-ins, front-ins}
 use Rattle.simulation_laws.specs.BesideLaws.{before-ins, after-ins, before-none, after-none}
@@ -46,7 +47,8 @@ upto-later t u r f = test (leb u limit) (λ e. rw e f) (λ e. rw e tt)
 -- ---- placing keeps the notices due from t on
 
 -- (beside a Y without a notice nothing is put in, whatever the time)
-placed-from : (t k y : ℕ) (n : Notice) (ns : List Notice) → k ≤ 6 → ((5 ≤ k → In y (whos ns)) → t ≤ n .due) → From t ns → From t (placed k y n ns)
+placed-from : (t k y : ℕ) (n : Notice) (ns : List Notice) → k ≤ 6 → ((5 ≤ k → In y (whos ns)) → t ≤ n .due) → From t ns
+    → From t (placed k y n ns)
 unfolding placed
 placed-from t k y n ns k6 h f =
     test (eqb k 5)
@@ -66,7 +68,8 @@ placed-from t k y n ns k6 h f =
     neither : k ≢ 5 → k ≢ 6 → 5 ≤ k → ⊥
     neither a b m = omega arith
 
-behind-later : (t : ℕ) (l : Lists) (n : Notice) (ns : List Notice) → From t ns → t ≤ n .due → Later t (done (withNotices l (behindAll n ns)))
+behind-later : (t : ℕ) (l : Lists) (n : Notice) (ns : List Notice) → From t ns → t ≤ n .due
+    → Later t (done (withNotices l (behindAll n ns)))
 behind-later t l n [] f h = h
 behind-later t l n (k ∷ ks) f h = test (leb (k .due) (n .due)) (λ e. rw e (f .0)) (λ e. rw e h)
 
@@ -90,7 +93,8 @@ module _ (l : Lists) (n : Notice) (ns : List Notice) (e : l .notices ≡ n ∷ n
   pub cancel-forward : (c : Counts) (x : ℕ) → Later (time l) (cancel c x l)
   unfolding cancel
   cancel-forward c x =
-      need-later (time l) (orNone (isProcess c x) x) _ (leaving-later (time l) l (dropped x (l .notices)) (drop-from x (time l) (l .notices) all-from))
+      need-later (time l) (orNone (isProcess c x) x) _ (leaving-later (time l) l (dropped x (l .notices))
+      (drop-from x (time l) (l .notices) all-from))
 
   pub finish-forward : (c : Counts) → Later (time l) (finish c l)
   unfolding finish
@@ -127,5 +131,6 @@ module _ (l : Lists) (n : Notice) (ns : List Notice) (e : l .notices ≡ n ∷ n
       (drop-from x (time l) (l .notices) all-from)))))))
       (λ g. rw g tt)
 
-  pub timed-forward : (c : Counts) → (In 0 (whos (l .notices)) → ⊥) → (again : Bool) (k x y : ℕ) (z : ℤ) → Later (time l) (timed c again k x y z l)
+  pub timed-forward : (c : Counts) → (In 0 (whos (l .notices)) → ⊥) → (again : Bool) (k x y : ℕ) (z : ℤ)
+      → Later (time l) (timed c again k x y z l)
   timed-forward c f again k x y z = subst (Later (time l)) (drop-first c again k x y z l (rw e o) f) (dropped-forward c again k x y z)

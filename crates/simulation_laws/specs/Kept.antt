@@ -13,10 +13,13 @@ use Rattle.model.specs.Counts.{limit, isHead, isProcess, placeOf}
 use Rattle.model.specs.declared.answer.Answer.the-variants.{Refused}
 use Rattle.model_laws.specs.Now.{half, firstOf, timeOf}
 use Rattle.model_laws.specs.Result.{KeepsRefused}
+use Rattle.model_laws.specs.Tables.{modelOf}
 use Rattle.simset_laws.specs.Calls.{orNone}
 use Rattle.simulation_laws.specs.Plain.{above, timedNeed}
-use Rattle.simulation_laws.specs.Procedures.{Sqs, Outcome, made, turnedDown, idleAt, lone, dropOn, heldTo, held, passivated, cancelled, vain, dueAt, putByClause, activated, finishedMarks}
-use Rattle.simulation_laws.specs.Calls.{yPlace, sqsOf, holdStep, passivateStep, cancelStep, timedStep, finishStep, waitStep, onSqs, onMarks, onSets}
+use Rattle.simulation_laws.specs.Procedures.{Sqs, Outcome, made, turnedDown, idleAt, lone, dropOn, heldTo, held, passivated}
+use Rattle.simulation_laws.specs.Procedures.{cancelled, vain, dueAt, putByClause, activated, finishedMarks}
+use Rattle.simulation_laws.specs.Calls.{yPlace, sqsOf, holdStep, passivateStep, cancelStep, timedStep, finishStep, waitStep, onSqs}
+use Rattle.simulation_laws.specs.Calls.{onMarks, onSets}
 
 -- ---- on the sequencing set
 
@@ -69,7 +72,7 @@ module _ (m : ℕ) (a : Sqs) where
 -- ---- on the whole model
 
 sqs-kept : (f : List ℕ → Sqs → Outcome) → ((k : List ℕ) (a : Sqs) → Keeps a (f k a)) → KeepsRefused (onSqs f)
-sqs-kept f g t r e = ap (λ (a : Sqs). record { links = t .links; axis = a .axis; times = a .times; marks = t .marks })
+sqs-kept f g t r e = ap (λ (a : Sqs). modelOf (t .links) (a .axis) (a .times) (t .marks))
     (g (t .marks) (sqsOf t) r e)
 
 module _ (c : Counts) where

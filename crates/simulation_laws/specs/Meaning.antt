@@ -8,14 +8,14 @@ use mathlib.Core.List.{List}
 use native.Mathlib.Omega.{arith}
 use lib.Dec.{eqb, leb}
 use lib.IntN.{ℤ}
-use borrow.Author.Tests.{eq-eqb, ne-eqb, le-leb, lt-leb, leb-false, lt-ltb}
+use borrow.Author.Tests.{eq-eqb, ne-eqb, le-leb, leb-false, lt-ltb}
 use Rattle.ring_laws.specs.Lists.{decide, test, clash}
 use Rattle.model.specs.declared.Counts.{Counts}
 use Rattle.model.specs.declared.Refusal.the-variants.{Operand, NoNotice}
 use Rattle.model.specs.Counts.{total, main, isHead, isProcess, isLink}
 use Rattle.model.specs.declared.answer.Answer.the-variants.{Done, Refused}
 use Rattle.model_laws.specs.Notices.{Notice}
-use Rattle.model_laws.specs.Tables.{Tables, Lists, Sized, Spells}
+use Rattle.model_laws.specs.Tables.{Tables, Lists, Sized, Spells, modelOf}
 use Rattle.model_laws.specs.Formed.{notice-process}
 use Rattle.model_laws.specs.Called.{called}
 use Rattle.model_laws.specs.NowLaws.{Split, splits}
@@ -28,32 +28,20 @@ use Rattle.simset_laws.specs.Promise.{none-or, head-in}
 use Rattle.simset_laws.specs.Laws.{sets-preceded}
 use Rattle.simset_laws.specs.Meaning.{called-is, link-of}
 use Rattle.simset_laws.specs.Plain.{withSets}
-use Rattle.simulation_laws.specs.Plain.{above, hold, passivate, wait, cancel, finish, dueFor, placed, noEffect, timedNeed, timed}
-use Rattle.simulation_laws.specs.Procedures.{Sqs, Outcome, made, turnedDown, lone, dropOn, passivated, activated}
-use Rattle.simulation_laws.specs.Calls.{sqsOf, Marked, holdStep, passivateStep, cancelStep, timedStep, finishStep, waitStep, onSqs, onMarks, onSets}
+use Rattle.simulation_laws.specs.Plain.{above, hold, passivate, wait, cancel, finish, timedNeed, timed}
+use Rattle.simulation_laws.specs.Procedures.{Sqs, made, turnedDown, lone, dropOn, passivated, activated}
+use Rattle.simulation_laws.specs.Calls.{sqsOf, Marked, holdStep, passivateStep, cancelStep, timedStep, finishStep, waitStep, onSqs}
+use Rattle.simulation_laws.specs.Calls.{onMarks, onSets}
 use Rattle.simulation_laws.specs.Places.{Process}
-use Rattle.simulation_laws.specs.Agree.{withSqs, withMarks, Agrees, AgreesMarked, st, first-is, process-first, hold-agrees}
+use Rattle.simulation_laws.specs.Agree.{withSqs, Agrees, st, first-is, process-first, hold-agrees}
+use Rattle.simulation_laws.specs.Agree.{follows-sqs, follows-marks}
 use Rattle.simulation_laws.specs.AgreeEnds.{passivate-agrees, cancel-agrees, finish-agrees, lone-leaves, wait-agrees}
-use Rattle.simulation_laws.specs.Replace.{timedDropFirst, drop-first}
+use Rattle.simulation_laws.specs.Replace.{timedDropFirst, drop-first, timed-plain}
 use Rattle.simulation_laws.specs.AgreeTimed.{timed-agrees}
 
-follows-sqs : (c : Counts) (t : Tables) (r : Result Lists) (o : Outcome) → Agrees c t r o → Follows c t r (record { tables = withSqs t (o .left); answer = o .answer })
-follows-sqs c t (refused r) o g = (g .0, ap (withSqs t) (g .1))
-follows-sqs c t (done l) o g = g
-
-follows-marks : (c : Counts) (t : Tables) (r : Result Lists) (o : Outcome) (k : List ℕ) → AgreesMarked c t r o k
-    → Follows c t r (record { tables = withMarks (withSqs t (o .left)) k; answer = o .answer })
-follows-marks c t (refused r) o k g = (g .0, λ i. withMarks (withSqs t (g .1 i)) (g .2 i))
-follows-marks c t (done l) o k g = g
-
--- a clause up to 4 does not look at Y
-timed-plain : (c : Counts) (again : Bool) (k x y : ℕ) (z : ℤ) (l : Lists) → k < 5 → timedDropFirst c again k x y z l ≡ timedDropFirst c again k x 0 z l
-unfolding timedDropFirst dueFor placed noEffect
-timed-plain c again k x y z l h =
-    rw (lt-leb 5 k h, ne-eqb k 5 (λ e. omega arith), ne-eqb k 6 (λ e. omega arith))
-
 -- main can't finish
-main-refused : (c : Counts) (k : List ℕ) (a : Sqs) → firstOf (half c) (a .axis) ≡ 1 → finishStep c k a ≡ record { outcome = turnedDown Operand a; marks = k }
+main-refused : (c : Counts) (k : List ℕ) (a : Sqs) → firstOf (half c) (a .axis) ≡ 1
+    → finishStep c k a ≡ record { outcome = turnedDown Operand a; marks = k }
 unfolding finishStep
 main-refused c k a f = rw (eq-eqb (firstOf (half c) (a .axis)) 1 f)
 
@@ -67,11 +55,13 @@ module _ (c : Counts) (l : Lists) (t : Tables) (w : Sized c t) (s : Spells c l t
 
   pub hold-means : (z : ℤ) → Follows c t (hold z l) (called c (onSqs (λ k a. holdStep c z a)) t)
   unfolding holdStep
-  hold-means z = rw (called-is c l t w s (onSqs (λ k a. holdStep c z a))) (follows-sqs c t (hold z l) _ (hold-agrees c l t s (sp .head) (sp .rest) (sp .is) z))
+  hold-means z = rw (called-is c l t w s (onSqs (λ k a. holdStep c z a)))
+      (follows-sqs c t (hold z l) _ (hold-agrees c l t s (sp .head) (sp .rest) (sp .is) z))
 
   pub passivate-means : Follows c t (passivate l) (called c (onSqs (λ k a. passivateStep c a)) t)
   unfolding passivateStep
-  passivate-means = rw (called-is c l t w s (onSqs (λ k a. passivateStep c a))) (follows-sqs c t (passivate l) _ (passivate-agrees c l t s (sp .head) (sp .rest) (sp .is)))
+  passivate-means = rw (called-is c l t w s (onSqs (λ k a. passivateStep c a)))
+      (follows-sqs c t (passivate l) _ (passivate-agrees c l t s (sp .head) (sp .rest) (sp .is)))
 
   cancel-on : (x : ℕ) → orNone (isProcess c x) x ≡ true → Follows c t (cancel c x l) (onSqs (λ k a. cancelStep c x a) t)
   unfolding cancelStep
@@ -81,14 +71,17 @@ module _ (c : Counts) (l : Lists) (t : Tables) (w : Sized c t) (s : Spells c l t
   unfolding cancelStep cancel
   cancel-off x g = rw g (refl, refl)
 
-  timed-on : (again : Bool) (k x y : ℕ) (z : ℤ) → timedNeed c k x y ≡ true → Follows c t (timedDropFirst c again k x y z l) (onSqs (λ m a. timedStep c again k x y z m a) t)
+  timed-on : (again : Bool) (k x y : ℕ) (z : ℤ) → timedNeed c k x y ≡ true
+      → Follows c t (timedDropFirst c again k x y z l) (onSqs (λ m a. timedStep c again k x y z m a) t)
   unfolding timedStep
   timed-on again k x y z g =
       test (leb 5 k)
-      (λ h. rw (g, h) (follows-sqs c t (timedDropFirst c again k x y z l) _ (timed-agrees c l t s (sp .head) (sp .rest) (sp .is) again k x y z g)))
+      (λ h. rw (g, h) (follows-sqs c t (timedDropFirst c again k x y z l)
+      _ (timed-agrees c l t s (sp .head) (sp .rest) (sp .is) again k x y z g)))
       (λ h.
       let k5 : k < 5 = leb-false 5 k h in
-      let g0 : timedNeed c k x 0 ≡ true = subst (λ (b : Bool). (leb k 6 && orNone (isProcess c x) x && (not b || orNone (isProcess c 0) 0)) ≡ true) (sym h) (rw h at g) in
+      let g0 : timedNeed c k x 0 ≡ true = subst (λ (b : Bool). (leb k 6 && orNone (isProcess c x) x && (not b || orNone (isProcess c 0) 0))
+      ≡ true) (sym h) (rw h at g) in
       let zero-place : 0 - c .heads ≡ 0 = omega arith in
       rw (g, h)
       (subst
@@ -98,10 +91,12 @@ module _ (c : Counts) (l : Lists) (t : Tables) (w : Sized c t) (s : Spells c l t
       }))
       (sym (timed-plain c again k x y z l k5))
       (follows-sqs c t (timedDropFirst c again k x 0 z l) _
-      (subst (λ (j : ℕ). Agrees c t (timedDropFirst c again k x 0 z l) (activated (half c) again k (x - c .heads) j (above z) (t .marks) (sqsOf t))) zero-place
+      (subst (λ (j : ℕ). Agrees c t (timedDropFirst c again k x 0 z l)
+      (activated (half c) again k (x - c .heads) j (above z) (t .marks) (sqsOf t))) zero-place
       (timed-agrees c l t s (sp .head) (sp .rest) (sp .is) again k x 0 z g0)))))
 
-  timed-off : (again : Bool) (k x y : ℕ) (z : ℤ) → timedNeed c k x y ≡ false → Follows c t (timedDropFirst c again k x y z l) (onSqs (λ m a. timedStep c again k x y z m a) t)
+  timed-off : (again : Bool) (k x y : ℕ) (z : ℤ) → timedNeed c k x y ≡ false
+      → Follows c t (timedDropFirst c again k x y z l) (onSqs (λ m a. timedStep c again k x y z m a) t)
   unfolding timedStep timedDropFirst
   timed-off again k x y z g = rw g (refl, refl)
 
@@ -121,7 +116,7 @@ module _ (c : Counts) (l : Lists) (t : Tables) (w : Sized c t) (s : Spells c l t
       subst (λ (r : Result Lists). Follows c t r (onMarks (λ k a. finishStep c k a) t)) (sym (plain-refused c l q))
       (subst
       (λ (o : Marked). Follows c t (refused Operand) (record {
-        tables = record { links = t .links; axis = o .outcome .left .axis; times = o .outcome .left .times; marks = o .marks };
+        tables = modelOf (t .links) (o .outcome .left .axis) (o .outcome .left .times) (o .marks);
         answer = o .outcome .answer;
       }))
       (sym (main-refused c (t .marks) (sqsOf t) f)) (refl, refl))
@@ -131,7 +126,8 @@ module _ (c : Counts) (l : Lists) (t : Tables) (w : Sized c t) (s : Spells c l t
   finish-other q =
       let f : firstOf (half c) (t .axis) ≢ 1 = λ z. q (omega (arith, place-first, current-is, first-process)) in
       let g : not (eqb (current l) (main c)) ≡ true = ap not (ne-eqb (current l) (main c) q) in
-      rw (ne-eqb (firstOf (half c) (t .axis)) 1 f) (follows-marks c t (finish c l) _ _ (finish-agrees c l t s (sp .head) (sp .rest) (sp .is) g))
+      rw (ne-eqb (firstOf (half c) (t .axis)) 1 f) (follows-marks c t (finish c l)
+      _ _ (finish-agrees c l t s (sp .head) (sp .rest) (sp .is) g))
 
   -- ---- wait
 
@@ -139,7 +135,8 @@ module _ (c : Counts) (l : Lists) (t : Tables) (w : Sized c t) (s : Spells c l t
   unfolding waitStep wait
   wait-off y g = rw g (refl, refl)
 
-  wait-lone : (y : ℕ) → orNone (isHead c y) y ≡ true → lone (half c) (sqsOf t) ≡ true → Follows c t (wait c y l) (onSets (λ k a. waitStep c y k a) t)
+  wait-lone : (y : ℕ) → orNone (isHead c y) y ≡ true → lone (half c) (sqsOf t) ≡ true
+      → Follows c t (wait c y l) (onSets (λ k a. waitStep c y k a) t)
   unfolding waitStep wait
   wait-lone y g q =
       rw (g, q)
@@ -149,7 +146,7 @@ module _ (c : Counts) (l : Lists) (t : Tables) (w : Sized c t) (s : Spells c l t
   -- current is a link, and goes into the set of y
   entered : (y : ℕ) → orNone (isHead c y) y ≡ true
       → Spells c (withSets l (precedeSets (current l) y (l .sets)))
-      (record { links = preceded (total c + 1) (current l) y (t .links); axis = t .axis; times = t .times; marks = t .marks })
+      (modelOf (preceded (total c + 1) (current l) y (t .links)) (t .axis) (t .times) (t .marks))
   entered y g =
       let p : isLink c (current l) ≡ true = current-link in
       record {
@@ -166,18 +163,20 @@ module _ (c : Counts) (l : Lists) (t : Tables) (w : Sized c t) (s : Spells c l t
     where
       current-link : isLink c (current l) ≡ true
       current-link =
-          rw (current-is, lt-ltb (c .heads) (sp .head .who) (first-process .over)) (le-leb (sp .head .who) (total c) (omega (arith, first-process .upto)))
+          rw (current-is, lt-ltb (c .heads) (sp .head .who) (first-process .over))
+          (le-leb (sp .head .who) (total c) (omega (arith, first-process .upto)))
 
-  wait-on : (y : ℕ) → orNone (isHead c y) y ≡ true → lone (half c) (sqsOf t) ≡ false → Follows c t (wait c y l) (onSets (λ k a. waitStep c y k a) t)
+  wait-on : (y : ℕ) → orNone (isHead c y) y ≡ true → lone (half c) (sqsOf t) ≡ false
+      → Follows c t (wait c y l) (onSets (λ k a. waitStep c y k a) t)
   unfolding waitStep passivated
   wait-on y g q =
       let here : c .heads + firstOf (half c) (t .axis) ≡ current l = omega (arith, place-first, current-is, first-process) in
-      let u : Tables = record { links = preceded (total c + 1) (current l) y (t .links); axis = t .axis; times = t .times; marks = t .marks } in
+      let u : Tables = modelOf (preceded (total c + 1) (current l) y (t .links)) (t .axis) (t .times) (t .marks) in
       let a = wait-agrees c (withSets l (precedeSets (current l) y (l .sets))) u (entered y g) (sp .head) (sp .rest) (sp .is) y l g refl in
       rw (g, q, here) (waited (wait c y l) (rw q at a))
     where
       waited : (r : Result Lists)
-          → Agrees c (record { links = preceded (total c + 1) (current l) y (t .links); axis = t .axis; times = t .times; marks = t .marks }) r
+          → Agrees c (modelOf (preceded (total c + 1) (current l) y (t .links)) (t .axis) (t .times) (t .marks)) r
           (made (dropOn (half c) (firstOf (half c) (t .axis)) (sqsOf t)))
           → Follows c t r (record {
             tables = record {
@@ -196,7 +195,8 @@ module _ (c : Counts) (l : Lists) (t : Tables) (w : Sized c t) (s : Spells c l t
       rw (called-is c l t w s (onSqs (λ k a. cancelStep c x a)))
       (test (orNone (isProcess c x) x) (cancel-on x) (cancel-off x))
 
-  pub timed-means : (again : Bool) (k x y : ℕ) (z : ℤ) → Follows c t (timed c again k x y z l) (called c (onSqs (λ m a. timedStep c again k x y z m a)) t)
+  pub timed-means : (again : Bool) (k x y : ℕ) (z : ℤ) → Follows c t (timed c again k x y z l)
+      (called c (onSqs (λ m a. timedStep c again k x y z m a)) t)
   timed-means again k x y z =
       subst (λ (r : Result Lists). Follows c t r (called c (onSqs (λ m a. timedStep c again k x y z m a)) t))
       (drop-first c again k x y z l (s .in-order) (λ i. omega (arith, notice-process c l t s 0 i)))

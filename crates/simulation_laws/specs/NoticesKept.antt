@@ -63,6 +63,7 @@ module _ (terminated : List ℕ) (ns : List Notice) (k : NoticesKept terminated 
 
 -- ---- the first notice taken out
 
-pub kept-rest : (terminated : List ℕ) (n : Notice) (ns : List Notice) → NoticesKept terminated (n ∷ ns) → 0 < length ns → NoticesKept terminated ns
+pub kept-rest : (terminated : List ℕ) (n : Notice) (ns : List Notice) → NoticesKept terminated (n ∷ ns) → 0 < length ns
+    → NoticesKept terminated ns
 kept-rest terminated n ns k l =
     record { some = l; in-order = k .in-order .1; within = k .within .1; idle = λ x i j. k .idle x i (inr j) }

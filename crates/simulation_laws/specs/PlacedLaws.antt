@@ -17,7 +17,8 @@ use Rattle.simulation_laws.specs.Plain.{dueFor, placed, noEffect}
 use Rattle.simulation_laws.specs.PutLaws.{last-sorted, front-sorted}
 use Rattle.simulation_laws.specs.BesideLaws.{before-sorted, after-sorted}
 
-pub placed-sorted : (k y : ℕ) (n : Notice) (ns : List Notice) → (5 ≤ k → In y (whos ns) × (n .due ≡ dueOf y ns)) → InOrder ns → InOrder (placed k y n ns)
+pub placed-sorted : (k y : ℕ) (n : Notice) (ns : List Notice) → (5 ≤ k → In y (whos ns) × (n .due ≡ dueOf y ns)) → InOrder ns
+    → InOrder (placed k y n ns)
 unfolding placed
 placed-sorted k y n ns f o =
     test (eqb k 5)

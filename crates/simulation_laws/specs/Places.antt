@@ -84,7 +84,8 @@ module _ (c : Counts) (ns : List Notice) (a : Sqs) (sp : SpellsTime c ns a) wher
   pub linked : (x : ℕ) → In x (whos ns) → 0 < getD t (x - c .heads) 0
   linked x i =
       let l : Link m (axisHead m) (x - c .heads) = member (x - c .heads) (who-place c ns x i) in
-      rw (getD-take m t (x - c .heads) 0 (l .within)) at (next-place m (axisHead m) (λ h. places c ns) (sucs m t) (pres m t) (sp .axis .rings) (m - 1) (x - c .heads) head (inr (who-place c ns x i)) .0)
+      rw (getD-take m t (x - c .heads) 0 (l .within)) at (next-place m (axisHead m) (λ h. places c ns) (sucs m t) (pres m t)
+      (sp .axis .rings) (m - 1) (x - c .heads) head (inr (who-place c ns x i)) .0)
 
   pub same-who : (x : ℕ) → Process c x → In (x - c .heads) (places c ns) → In x (whos ns)
   same-who x p i =
@@ -120,6 +121,7 @@ module _ (c : Counts) (ns : List Notice) (a : Sqs) (sp : SpellsTime c ns a) wher
   unfolding dropOn
   drop-spells x p =
       record {
-        axis = rw (axis-drop c x ns (p .over) (λ z i. is-process z i .over)) at (axis-unlinked m (places c ns) t (sp .axis) (x - c .heads) (a-link x p));
+        axis = rw (axis-drop c x ns (p .over) (λ z i. is-process z i .over)) at (axis-unlinked m (places c ns) t (sp .axis) (x - c .heads)
+            (a-link x p));
         times = times-set (dropped x ns) x 0 p (due-dropped x ns) (λ z d. drop-due x ns z d);
       }

@@ -87,7 +87,10 @@ abbrev pub heldTo : ℕ → ℕ → Sqs → Sqs
 heldTo m u a = heldAt m (firstOf m (a .axis)) u a
 
 unfoldable pub held : ℕ → ℕ → Sqs → Outcome
-held m d a = if leb (timeOf m (a .axis) (a .times) + d) limit then made (heldTo m (timeOf m (a .axis) (a .times) + d) a) else turnedDown TimeLimit a
+held m d a =
+    if leb (timeOf m (a .axis) (a .times) + d) limit
+    then made (heldTo m (timeOf m (a .axis) (a .times) + d) a)
+    else turnedDown TimeLimit a
 
 unfoldable pub passivated : ℕ → Sqs → Outcome
 passivated m a = if lone m a then turnedDown NoNotice a else made (dropOn m (firstOf m (a .axis)) a)

@@ -81,7 +81,7 @@ pub record Vain (again : Bool) (k x y : ℕ) (marks axis : List ℕ) (r : Bool) 
   pub is : r ≡ vain again k x y marks axis
 
 -- the clause is before or after, and y is idle
-pub record Beside (k y : ℕ) (axis : List ℕ) (r : Bool) : Type 0 where
+pub record BesideIdle (k y : ℕ) (axis : List ℕ) (r : Bool) : Type 0 where
   pub is : r ≡ (leb 5 k && idleOn axis y)
 
 pub record Due (k y d now : ℕ) (times : List ℕ) (r : ℕ) : Type 0 where

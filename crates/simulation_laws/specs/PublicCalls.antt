@@ -10,7 +10,8 @@ use Rattle.model.specs.declared.answer.Answer.the-variants.{Linkage, Number, Tr
 use Rattle.model.specs.declared.call.SequencingCall.{SequencingCall}
 use Rattle.model.specs.declared.call.SequencingCall.the-variants.{Hold, Passivate, Wait, Cancel, Activate, Reactivate, Finish}
 use Rattle.model.specs.declared.call.Query.{Query}
-use Rattle.model.specs.declared.call.Query.the-variants.{First, Last, Suc, Pred, Empty, Cardinal, Current, Time, Idle, Terminated, Evtime, Nextev}
+use Rattle.model.specs.declared.call.Query.the-variants.{First, Last, Suc, Pred, Empty, Cardinal, Current, Time, Idle, Terminated, Evtime}
+use Rattle.model.specs.declared.call.Query.the-variants.{Nextev}
 use Rattle.model_laws.specs.Tables.{Tables, Lists, After, membersOf}
 use Rattle.model_laws.specs.Result.{Result, need}
 use Rattle.model_laws.specs.Now.{current, time}
@@ -21,7 +22,8 @@ use Rattle.simulation_laws.specs.Plain.{timedNeed}
 use Rattle.simulation_laws.specs.Plain as plain
 use Rattle.simulation_laws.specs.Published.{clauseCode, clausePrior, ACTIVATE}
 use Rattle.simulation_laws.specs.Published as published
-use Rattle.simulation_laws.specs.Calls.{sqsOf, holdStep, passivateStep, cancelStep, timedStep, finishStep, waitStep, onSqs, onMarks, onSets, currentTold, timeTold, idleTold, terminatedTold, evtimeTold, nextevTold}
+use Rattle.simulation_laws.specs.Calls.{sqsOf, holdStep, passivateStep, cancelStep, timedStep, finishStep, waitStep, onSqs, onMarks}
+use Rattle.simulation_laws.specs.Calls.{onSets, currentTold, timeTold, idleTold, terminatedTold, evtimeTold, nextevTold}
 use Rattle.simulation_laws.specs.QueryMeaning.{evtimeOf, nextevOf}
 
 -- ---- the sequencing calls

@@ -7,14 +7,16 @@ use Rattle.model.specs.declared.answer.Answer.{Answer}
 use Rattle.model.specs.declared.call.SequencingCall.{SequencingCall}
 use Rattle.model.specs.declared.call.SequencingCall.the-variants.{Hold, Passivate, Wait, Cancel, Activate, Reactivate, Finish}
 use Rattle.model.specs.declared.call.Query.{Query}
-use Rattle.model.specs.declared.call.Query.the-variants.{First, Last, Suc, Pred, Empty, Cardinal, Current, Time, Idle, Terminated, Evtime, Nextev}
+use Rattle.model.specs.declared.call.Query.the-variants.{First, Last, Suc, Pred, Empty, Cardinal, Current, Time, Idle, Terminated, Evtime}
+use Rattle.model.specs.declared.call.Query.the-variants.{Nextev}
 use Rattle.model_laws.specs.Tables.{Tables, Lists, After, Sized, Spells}
 use Rattle.model_laws.specs.Called.{called, asked}
 use Rattle.model_laws.specs.Result.{Follows, KeepsRefused, called-kept}
 use Rattle.simset_laws.specs.Meaning.{first-means, last-means, suc-means, pred-means, empty-means, cardinal-means}
 use Rattle.simulation_laws.specs.Kept.{hold-steps, passivate-steps, cancel-steps, timed-steps, finish-steps, wait-steps}
 use Rattle.simulation_laws.specs.Meaning.{hold-means, passivate-means, wait-means, cancel-means, finish-means, timed-means}
-use Rattle.simulation_laws.specs.PublishedCalls.{hold-leaves, passivate-leaves, wait-leaves, cancel-leaves, finish-leaves, activate-leaves}
+use Rattle.simulation_laws.specs.PublishedCalls.{hold-leaves, passivate-leaves, wait-leaves, cancel-leaves, finish-leaves}
+use Rattle.simulation_laws.specs.PublishedCalls.{activate-leaves}
 use Rattle.simulation_laws.specs.QueryMeaning.{current-means, time-means, idle-means, terminated-means, evtime-means, nextev-means}
 use Rattle.simulation_laws.specs.PublicCalls.{sequencingAfter, sequencingCall, publishedCall, queryTold, queryOn}
 
@@ -67,7 +69,8 @@ module _ (c : Counts) (l : Lists) (t : Tables) (w : Sized c t) (s : Spells c l t
   query-means (Nextev x) = nextev-means c l t w s x
 
 -- a call, or a query, that turned out to be this one
-pub call-as : (c : Counts) (k j : SequencingCall) (t : Tables) (a : After Answer) → k ≡ j → a ≡ sequencingAfter c j t → a ≡ sequencingAfter c k t
+pub call-as : (c : Counts) (k j : SequencingCall) (t : Tables) (a : After Answer) → k ≡ j → a ≡ sequencingAfter c j t
+    → a ≡ sequencingAfter c k t
 call-as c k j t a e w = rw e w
 
 pub query-as : (c : Counts) (q j : Query) (t : Tables) (a : Answer) → q ≡ j → a ≡ queryTold c j t → a ≡ queryTold c q t

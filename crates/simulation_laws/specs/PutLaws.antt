@@ -43,7 +43,8 @@ module _ (n : Notice) where
       (λ l. rw (le-ltb (k .due) (n .due) l) ((l, from-less (n .due) (k .due) ks l (o .0)), o))
 
   -- behind all of equal or smaller time
-  pub last-stands : (ns : List Notice) (a : ℕ) → InOrder ns → In a (whos ns) → dueOf a ns ≤ n .due → Before a (n .who) (whos (behindAll n ns))
+  pub last-stands : (ns : List Notice) (a : ℕ) → InOrder ns → In a (whos ns) → dueOf a ns ≤ n .due
+      → Before a (n .who) (whos (behindAll n ns))
   last-stands [] a o i l = absurd i
   last-stands (k ∷ ks) a o i l =
       below (n .due) (k .due)

@@ -49,7 +49,8 @@ abbrev pub nextevOf : ℕ → List Notice → Answer
 nextevOf x ns = if hasNotice x ns then Linkage (nextAfter x ns) else Linkage 0
 
 -- along the chain of the axis, whose end e is the head
-next-chain : (S P : ℕ → ℕ) (c : Counts) (a : ℕ) (ns : List Notice) (e x : ℕ) → Chain S P a (places c ns) e → ((y : ℕ) → In y (places c ns) → y ≢ e)
+next-chain : (S P : ℕ → ℕ) (c : Counts) (a : ℕ) (ns : List Notice) (e x : ℕ) → Chain S P a (places c ns) e
+    → ((y : ℕ) → In y (places c ns) → y ≢ e)
     → ((y : ℕ) → In y (whos ns) → c .heads < y) → In x (whos ns)
     → (if eqb (S (x - c .heads)) e then Linkage 0 else Linkage (linkageAt c (S (x - c .heads)))) ≡ Linkage (nextAfter x ns)
 next-chain S P c a [] e x ch f h i = absurd i
@@ -59,9 +60,14 @@ next-chain S P c a (k ∷ j ∷ js) e x ch f h i =
     decide (k .who) x
     (λ q.
     let back : c .heads + (j .who - c .heads) ≡ j .who = omega (arith, h (j .who) (inr (inl refl))) in
-    rw (ap (λ (z : ℕ). S (z - c .heads)) (sym q) ∙ ch .1 .0 .next, ne-eqb (j .who - c .heads) e (f (j .who - c .heads) (inr (inl refl))), eq-eqb (k .who) x q)
+    rw (
+      ap (λ (z : ℕ). S (z - c .heads)) (sym q) ∙ ch .1 .0 .next,
+      ne-eqb (j .who - c .heads) e (f (j .who - c .heads) (inr (inl refl))),
+      eq-eqb (k .who) x q,
+    )
     (ap Linkage back))
-    (λ d. rw (ne-eqb (k .who) x d) (next-chain S P c (k .who - c .heads) (j ∷ js) e x (ch .1) (λ y m. f y (inr m)) (λ y m. h y (inr m)) (later i d)))
+    (λ d. rw (ne-eqb (k .who) x d) (next-chain S P c (k .who - c .heads) (j ∷ js) e x (ch .1) (λ y m. f y (inr m)) (λ y m. h y (inr m))
+    (later i d)))
   where
     later : In x (whos (k ∷ j ∷ js)) → k .who ≢ x → In x (whos (j ∷ js))
     later (inl q) d = absurd (d (sym q))
@@ -112,7 +118,8 @@ module _ (c : Counts) (l : Lists) (t : Tables) (w : Sized c t) (s : Spells c l t
     terminated-means =
         asked-is c l t w s (λ k. terminatedTold c x (k .marks))
         ∙ told-by (isProcess c x) _ _ (λ g.
-        ap Truth (ap (λ (j : ℕ). eqb j 1) (marks-at c l t s (sp .head) (sp .rest) (sp .is) x (process-of c x g)) ∙ bit-is (has x (l .terminated))))
+        ap Truth (ap (λ (j : ℕ). eqb j 1) (marks-at c l t s (sp .head) (sp .rest) (sp .is) x (process-of c x g))
+        ∙ bit-is (has x (l .terminated))))
 
     -- 6 exactly for an idle process
     pub evtime-means : asked c (λ k. evtimeTold c x (sqsOf k)) t ≡ toldIf (isProcess c x) (evtimeOf x (l .notices))
@@ -136,6 +143,7 @@ module _ (c : Counts) (l : Lists) (t : Tables) (w : Sized c t) (s : Spells c l t
         getD-take (half c) (t .axis) (x - c .heads) 0 (member c (l .notices) a spt (x - c .heads) (who-place c (l .notices) x i) .within) in
         rw (idle-is (process-of c x g), h)
         (subst (λ (v : ℕ). (if eqb v (half c - 1) then Linkage 0 else Linkage (linkageAt c v)) ≡ Linkage (nextAfter x (l .notices))) at
-        (next-chain (sucs (half c) (t .axis)) (pres (half c) (t .axis)) c (half c - 1) (l .notices) (half c - 1) x (chain c (l .notices) a spt)
+        (next-chain (sucs (half c) (t .axis)) (pres (half c) (t .axis)) c (half c - 1) (l .notices) (half c - 1) x
+        (chain c (l .notices) a spt)
         (off-head c (l .notices) a spt) (λ y m. is-process c (l .notices) a spt y m .over) i)))
         (λ h. rw (idle-is (process-of c x g), h)))

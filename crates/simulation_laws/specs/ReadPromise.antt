@@ -18,8 +18,10 @@ use Rattle.model.specs.Counts.{isProcess, placeOf, linkageAt}
 use Rattle.model.specs.declared.answer.Answer.{Answer}
 use Rattle.model.specs.declared.answer.Answer.the-variants.{Linkage, Number, Truth, Refused}
 use Rattle.model_laws.specs.Now.{half, firstOf, nextPlace, idleOn}
+use Rattle.model_laws.specs.Tables.{modelOf}
 use Rattle.simulation_laws.specs.Procedures.{Sqs, Outcome}
-use Rattle.simulation_laws.specs.Calls.{Marked, Waited, onSqs, onMarks, onSets, currentTold, timeTold, idleTold, evtimeTold, nextevTold}
+use Rattle.simulation_laws.specs.Calls.{Marked, Waited, onSqs, onMarks, onSets, currentTold, timeTold, idleTold, evtimeTold}
+use Rattle.simulation_laws.specs.Calls.{nextevTold}
 use Rattle.simulation_laws.specs.Promise.{sqs, Answers, Place, Read}
 use Rattle.simulation_laws.specs.StepPromise.{FinishMade, WaitMade, process-in}
 
@@ -66,42 +68,44 @@ module _ (c : Counts) (axis times : List ℕ) where
       pub nextev-next : (v : ℕ) → w ≢ m - 1 → v ≡ c .heads + s → Linkage v ≡ nextevTold c x (sqs axis times)
       unfolding nextevTold
       nextev-next v d e =
-          rw (ok, ← eq, sym is ∙ n, ne-eqb (nextPlace axis q) (half c - 1) (λ z. d (omega (arith, ps .is)))) (ap Linkage (e ∙ ap (λ (j : ℕ). c .heads + j) (ps .is)))
+          rw (ok, ← eq, sym is ∙ n, ne-eqb (nextPlace axis q) (half c - 1) (λ z. d (omega (arith, ps .is))))
+          (ap Linkage (e ∙ ap (λ (j : ℕ). c .heads + j) (ps .is)))
 
 -- ---- calls seen on the whole model
 
 module _ (m : ℕ) (links axis times marks a t : List ℕ) (r : Answer) where
   pub on-sqs : (f : List ℕ → Sqs → Outcome) → Answers m (f marks (sqs axis times)) a t r
-      → record { tables = record { links = links; axis = a; times = t; marks = marks }; answer = r }
-      ≡ onSqs f (record { links = links; axis = axis; times = times; marks = marks })
+      → record { tables = modelOf links a t marks; answer = r }
+      ≡ onSqs f (modelOf links axis times marks)
   on-sqs f k =
-      ap (λ (o : Outcome). record { tables = record { links = links; axis = o .left .axis; times = o .left .times; marks = marks }; answer = o .answer }) (k .is)
+      ap (λ (o : Outcome). record { tables = modelOf links (o .left .axis) (o .left .times) marks; answer = o .answer }) (k .is)
 
   -- the same where T is handed on
-  pub on-signed : (z : ℤ) → SFits w64 z → (f : ℤ → List ℕ → Sqs → Outcome) → Answers m (f (toZ w64 (ofZ w64 z)) marks (sqs axis times)) a t r
-      → record { tables = record { links = links; axis = a; times = t; marks = marks }; answer = r }
-      ≡ onSqs (f z) (record { links = links; axis = axis; times = times; marks = marks })
+  pub on-signed : (z : ℤ) → SFits w64 z → (f : ℤ → List ℕ → Sqs → Outcome)
+      → Answers m (f (toZ w64 (ofZ w64 z)) marks (sqs axis times)) a t r
+      → record { tables = modelOf links a t marks; answer = r }
+      ≡ onSqs (f z) (modelOf links axis times marks)
   on-signed z g f k = on-sqs (f z) (subst (λ (w : ℤ). Answers m (f w marks (sqs axis times)) a t r) (toZ-ofZ w64 z g) k)
 
 module _ (c : Counts) (links axis times marks a t k : List ℕ) (r : Answer) where
   pub on-marks : (f : List ℕ → Sqs → Marked) → FinishMade c (f marks (sqs axis times)) a t k r
-      → record { tables = record { links = links; axis = a; times = t; marks = k }; answer = r }
-      ≡ onMarks f (record { links = links; axis = axis; times = times; marks = marks })
+      → record { tables = modelOf links a t k; answer = r }
+      ≡ onMarks f (modelOf links axis times marks)
   on-marks f w =
       ap
       (λ (o : Marked). record {
-        tables = record { links = links; axis = o .outcome .left .axis; times = o .outcome .left .times; marks = o .marks };
+        tables = modelOf links (o .outcome .left .axis) (o .outcome .left .times) (o .marks);
         answer = o .outcome .answer;
       })
       (w .is)
 
   pub on-sets : (f : List ℕ → Sqs → Waited) → WaitMade c (f links (sqs axis times)) k a t r
-      → record { tables = record { links = k; axis = a; times = t; marks = marks }; answer = r }
-      ≡ onSets f (record { links = links; axis = axis; times = times; marks = marks })
+      → record { tables = modelOf k a t marks; answer = r }
+      ≡ onSets f (modelOf links axis times marks)
   on-sets f w =
       ap
       (λ (o : Waited). record {
-        tables = record { links = o .links; axis = o .outcome .left .axis; times = o .outcome .left .times; marks = marks };
+        tables = modelOf (o .links) (o .outcome .left .axis) (o .outcome .left .times) marks;
         answer = o .outcome .answer;
       })
       (w .is)

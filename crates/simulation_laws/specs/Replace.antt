@@ -1,9 +1,9 @@
 -- Activate and reactivate in the tables' order: X's earlier notice is dropped, then the new one is placed. `timed` has the papers' order,
 -- in which the new notice is placed while the earlier one still stands. Both leave the same lists.
-use Prim.Native.Nat.{ℕ, suc, _≤_}
+use Prim.Native.Nat.{ℕ, suc, _≤_, _-_, _<_}
 use mathlib.Core.Path.{_≡_, refl, sym, ap, _∙_}
 use mathlib.Core.Logic.{_≢_, inl, inr}
-use mathlib.Core.Bool.{Bool, true, false, _||_}
+use mathlib.Core.Bool.{Bool, true, false, _||_, not}
 use mathlib.Core.List.{List, [], _∷_}
 use native.Mathlib.Omega.{arith}
 use lib.Dec.{eqb}
@@ -170,3 +170,10 @@ drop-first c again k x y z l o f =
     (sym (replaced-is k x y (dueFor k y z l) (not-none again k x y l q) (l .notices) o f (clause-in c k x y g)
     (λ m h. others-y again k x y l m q h)))))))
     (λ g. rw g refl)
+
+-- a clause up to 4 does not look at Y
+pub timed-plain : (c : Counts) (again : Bool) (k x y : ℕ) (z : ℤ) (l : Lists) → k < 5
+    → timedDropFirst c again k x y z l ≡ timedDropFirst c again k x 0 z l
+unfolding timedDropFirst dueFor placed noEffect
+timed-plain c again k x y z l h =
+    rw (lt-leb 5 k h, ne-eqb k 5 (λ e. omega arith), ne-eqb k 6 (λ e. omega arith))

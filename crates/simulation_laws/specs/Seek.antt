@@ -58,7 +58,8 @@ order-snoc : (l : List Notice) (z : Notice) → InOrder (l ++ (z ∷ [])) → In
 order-snoc [] z o = tt
 order-snoc (k ∷ l) z o = (from-snoc (k .due) l z (o .0) .1, order-snoc l z (o .1))
 
-timed-snoc : (c : Counts) (times : List ℕ) (l : List Notice) (z : Notice) → Timed c times (l ++ (z ∷ [])) → (getD times (z .who - c .heads) 0 ≡ z .due) × Timed c times l
+timed-snoc : (c : Counts) (times : List ℕ) (l : List Notice) (z : Notice) → Timed c times (l ++ (z ∷ []))
+    → (getD times (z .who - c .heads) 0 ≡ z .due) × Timed c times l
 timed-snoc c times [] z h = (h .0, tt)
 timed-snoc c times (k ∷ l) z h = let r = timed-snoc c times l z (h .1) in (r .0, (h .0, r .1))
 
@@ -77,7 +78,8 @@ in-init c (k ∷ l) z y (inl e) = inl e
 in-init c (k ∷ l) z y (inr i) = inr (in-init c l z y i)
 
 -- all are due below w: the place is the last's
-spot-last : (c : Counts) (w a : ℕ) (l : List Notice) (z : Notice) → InOrder (l ++ (z ∷ [])) → z .due < w → spotIn c w a (l ++ (z ∷ [])) ≡ z .who - c .heads
+spot-last : (c : Counts) (w a : ℕ) (l : List Notice) (z : Notice) → InOrder (l ++ (z ∷ [])) → z .due < w
+    → spotIn c w a (l ++ (z ∷ [])) ≡ z .who - c .heads
 spot-last c w a [] z o h = rw (lt-ltb (z .due) w h)
 spot-last c w a (k ∷ l) z o h =
     rw (lt-ltb (k .due) w (omega (arith, from-snoc (k .due) l z (o .0) .0))) (spot-last c w (k .who - c .heads) l z (o .1) h)
@@ -100,7 +102,8 @@ module _ (c : Counts) (m : ℕ) (times : List ℕ) (w : ℕ) (t : List ℕ) wher
 
   -- one step from both ends
   seek-ends : (k a : ℕ) (n : Notice) (l : List Notice) (z : Notice) (e : ℕ) → Between a (n ∷ (l ++ (z ∷ []))) e
-      → (n .due < w → seekFrom m times w t k (sucs m t (n .who - c .heads)) (pres m t (z .who - c .heads)) ≡ spotIn c w (n .who - c .heads) l)
+      → (n .due < w → seekFrom m times w t k (sucs m t (n .who - c .heads)) (pres m t (z .who - c .heads))
+      ≡ spotIn c w (n .who - c .heads) l)
       → seekFrom m times w t (suc k) (sucs m t a) (pres m t e) ≡ spotIn c w a (n ∷ (l ++ (z ∷ [])))
   seek-ends k a n l z e b ih =
       let p = n .who - c .heads in
@@ -112,7 +115,8 @@ module _ (c : Counts) (m : ℕ) (times : List ℕ) (w : ℕ) (t : List ℕ) wher
       let qn : q ≢ m - 1 = b .off q (inr (in-snoc c l z)) .1 in
       rw (b .links .0 .next, x .1 .prev)
       (below (z .due) w
-      (λ h. rw (lt-ltb (n .due) w (omega arith)) (seek-back m times w t (suc k) p q (omega arith) ∙ sym (spot-last c w p l z (b .order .1) h)))
+      (λ h. rw (lt-ltb (n .due) w (omega arith)) (seek-back m times w t (suc k) p q (omega arith)
+      ∙ sym (spot-last c w p l z (b .order .1) h)))
       (λ h. below (n .due) w
       (λ g.
       rw (lt-ltb (n .due) w g)
@@ -140,7 +144,8 @@ module _ (c : Counts) (m : ℕ) (times : List ℕ) (w : ℕ) (t : List ℕ) wher
       rw (b .links .0 .next, b .links .1 .prev)
       (below (n .due) w
       (λ h. rw (lt-ltb (n .due) w h) (seek-back m times w t (suc k) p p (omega arith)))
-      (λ h. rw (le-ltb (n .due) w h) (seek-front m times w t k p p (b .off p (inl refl) .1) (omega arith) (omega arith) ∙ b .links .0 .prev)))
+      (λ h. rw (le-ltb (n .due) w h) (seek-front m times w t k p p (b .off p (inl refl) .1) (omega arith) (omega arith)
+      ∙ b .links .0 .prev)))
   seek-step k ih a (n ∷ j ∷ js) e b stop le =
       let r = snoc j js in
       let l = r .0 in

@@ -1,13 +1,13 @@
 -- Where a notice may be linked: behind the place that a walk finds, in front of the first, right before or after another's.
-use Prim.Native.Nat.{ℕ, _-_, _<_, _≤_}
-use mathlib.Core.Path.{_≡_, refl, sym, ap, _∙_}
+use Prim.Native.Nat.{ℕ, _-_, _<_, _≤_, suc}
+use mathlib.Core.Path.{_≡_, refl, sym, ap, _∙_, subst}
 use mathlib.Core.Logic.{_≢_, inl, inr}
 use mathlib.Core.List.{List, [], _∷_}
 use native.Mathlib.Omega.{arith}
 use lib.ListN.{length}
 use lib.Seq.{getD-take}
-use borrow.Author.Tests.{eq-eqb, ne-eqb}
-use Rattle.ring_laws.specs.Lists.{In, decide, behind, ahead, behind-head}
+use borrow.Author.Tests.{eq-eqb, ne-eqb, eqb-true}
+use Rattle.ring_laws.specs.Lists.{In, decide, behind, ahead, behind-head, test}
 use Rattle.ring_laws.specs.Chain.{prev-in, back, behind-ahead}
 use Rattle.ring_laws.specs.Distinct.{Dist}
 use Rattle.ring_laws.specs.Stores.{sucs, pres}
@@ -15,16 +15,21 @@ use Rattle.ring_laws.specs.Spell.{spells-few}
 use Rattle.model_laws.specs.Tables.{axisHead}
 use Rattle.simulation_laws.specs.AxisRing.{axis-linked}
 use Rattle.model.specs.declared.Counts.{Counts}
-use Rattle.model_laws.specs.Notices.{Notice, whos, places, InOrder}
+use Rattle.model_laws.specs.Notices.{Notice, whos, places, InOrder, From}
 use Rattle.simulation_laws.specs.NoticeOps.{before, after}
 use Rattle.simulation_laws.specs.NoticeLaws.{Ins, ins-due, ins-own}
 use Rattle.simulation_laws.specs.BesideLaws.{before-ins, after-ins}
 use Rattle.model_laws.specs.Reading.{who-place, length-places}
 use Rattle.model_laws.specs.Now.{half}
-use Rattle.simulation_laws.specs.Procedures.{Sqs, prevOn, seekFrom, found, putOn}
+use Rattle.simulation_laws.specs.Procedures.{Sqs, prevOn, seekFrom, found, putOn, placeFor}
 use Rattle.simulation_laws.specs.Seek.{seek-finds}
-use Rattle.simulation_laws.specs.ByDue.{byDue, by-ins, spotIn, spot-on, behind-spot}
-use Rattle.simulation_laws.specs.Places.{SpellsTime, Process, head, chain, member, off-head, dist-all, is-process, a-link, timed, unlinked-is, times-set}
+use Rattle.simulation_laws.specs.ByDue.{byDue, by-ins, spotIn, spot-on, behind-spot, by-behind, by-front}
+use Rattle.simulation_laws.specs.Places.{SpellsTime, Process, head, chain, member, off-head, dist-all, is-process, a-link, timed}
+use Rattle.simulation_laws.specs.Places.{unlinked-is, times-set}
+use mathlib.Core.Bool.{_||_}
+use lib.Dec.{eqb}
+use Rattle.simulation_laws.specs.Plain.{placed}
+use Rattle.simulation_laws.specs.PutLaws.{front-first}
 
 -- ---- a notice is linked behind the place q
 
@@ -40,7 +45,8 @@ module _ (c : Counts) (ns : List Notice) (a : Sqs) (sp : SpellsTime c ns a) wher
   unfolding putOn
   put-spells n q ns′ p f s =
       record {
-        axis = rw (s .there) at (axis-linked (half c) (places c ns) (a .axis) (sp .axis) (n .who - c .heads) q (omega arith) (a-link c ns a sp (n .who) p) (unlinked-is c ns a sp (n .who) p f) (s .on));
+        axis = rw (s .there) at (axis-linked (half c) (places c ns) (a .axis) (sp .axis) (n .who - c .heads) q (omega arith)
+            (a-link c ns a sp (n .who) p) (unlinked-is c ns a sp (n .who) p f) (s .on));
         times = times-set c ns a sp ns′ (n .who) (n .due) p (ins-own n (s .puts) f) (λ z d. ins-due n z d (s .puts));
       }
 
@@ -54,14 +60,22 @@ module _ (c : Counts) (ns : List Notice) (a : Sqs) (sp : SpellsTime c ns a) wher
       }
 
   pub few : length ns ≤ half c
-  few = rw (length-places c ns) at (spells-few (half c) (axisHead (half c)) (λ h. places c ns) (a .axis) (sp .axis) (half c - 1) (head c ns a sp))
+  few = rw (length-places c ns) at (spells-few (half c) (axisHead (half c)) (λ h. places c ns) (a .axis) (sp .axis) (half c - 1)
+      (head c ns a sp))
 
   -- the search from both ends finds it: the fuel is enough
   pub seek-is : (w : ℕ) → InOrder ns → found (half c) w a ≡ spotIn c w (half c - 1) ns
   unfolding found
   seek-is w o =
-      ap (λ (f : ℕ). seekFrom (half c) (a .times) w (a .axis) (half c) f (prevOn (half c) a (half c - 1))) (sym (getD-take (half c) (a .axis) (half c - 1) 0 (omega arith)))
-      ∙ seek-finds c (half c) (a .times) w (a .axis) (half c) (half c - 1) ns (half c - 1) (record { links = chain c ns a sp; due = timed c ns a sp; order = o; off = λ y i. (member c ns a sp y i .within, off-head c ns a sp y i) }) (inl refl) few
+      ap (λ (f : ℕ). seekFrom (half c) (a .times) w (a .axis) (half c) f (prevOn (half c) a (half c - 1)))
+      (sym (getD-take (half c) (a .axis) (half c - 1) 0 (omega arith)))
+      ∙ seek-finds c (half c) (a .times) w (a .axis) (half c) (half c - 1) ns (half c - 1)
+      (record {
+        links = chain c ns a sp;
+        due = timed c ns a sp;
+        order = o;
+        off = λ y i. (member c ns a sp y i .within, off-head c ns a sp y i);
+      }) (inl refl) few
 
   pub found-spot : (n : Notice) (w : ℕ) → InOrder ns → Spot c ns n (found (half c) w a) (byDue w n ns)
   found-spot n w o = spot-at n w (found (half c) w a) (seek-is w o)
@@ -76,7 +90,8 @@ module _ (c : Counts) (ns : List Notice) (a : Sqs) (sp : SpellsTime c ns a) wher
   after-spot n y i =
       record {
         on = inr (who-place c ns y i);
-        there = go (half c - 1) ns (off-head c ns a sp (y - c .heads) (who-place c ns y i)) (dist-all c ns a sp .1) (λ z j. is-process c ns a sp z j .over) (is-process c ns a sp y i .over);
+        there = go (half c - 1) ns (off-head c ns a sp (y - c .heads) (who-place c ns y i)) (dist-all c ns a sp .1)
+            (λ z j. is-process c ns a sp z j .over) (is-process c ns a sp y i .over);
         puts = after-ins y n ns i;
       }
     where
@@ -103,8 +118,10 @@ module _ (c : Counts) (ns : List Notice) (a : Sqs) (sp : SpellsTime c ns a) wher
       record {
         on = prev-in S P (half c - 1) (places c ns) (half c - 1) q (chain c ns a sp) (inl on-y);
         there =
-            behind-ahead S P q (n .who - c .heads) (back S P (half c - 1) (places c ns) (half c - 1) q (chain c ns a sp) (inl on-y)) (half c - 1) (places c ns) (half c - 1) (chain c ns a sp)
-            ∙ go ns (off-head c ns a sp q on-y) (dist-all c ns a sp .1) (λ z j. is-process c ns a sp z j .over) (is-process c ns a sp y i .over);
+            behind-ahead S P q (n .who - c .heads) (back S P (half c - 1) (places c ns) (half c - 1) q (chain c ns a sp) (inl on-y))
+            (half c - 1) (places c ns) (half c - 1) (chain c ns a sp)
+            ∙ go ns (off-head c ns a sp q on-y) (dist-all c ns a sp .1) (λ z j. is-process c ns a sp z j .over)
+            (is-process c ns a sp y i .over);
         puts = before-ins y n ns i;
       }
     where
@@ -118,3 +135,21 @@ module _ (c : Counts) (ns : List Notice) (a : Sqs) (sp : SpellsTime c ns a) wher
           (λ g.
           rw (ne-eqb (k .who) y g, ne-eqb (k .who - c .heads) (y - c .heads) (λ q. g (omega (arith, f (k .who) (inl refl)))))
           (ap (λ (r : List ℕ). (k .who - c .heads) ∷ r) (go ks ne (d .1) (λ z j. f z (inr j)) h)))
+
+-- ---- where ACTIVATE places the new notice, the old notice of its process being gone
+
+pub place-spot : (c : Counts) (l : List Notice) (b : Sqs) → SpellsTime c l b → InOrder l → (k y now : ℕ) (n : Notice) → k ≤ 6
+    → (5 ≤ k → In y (whos l)) → From now l → Spot c l n (placeFor (half c) k (y - c .heads) now (n .due) b) (placed k y n l)
+unfolding placeFor placed
+place-spot c l b sp o k y now n k6 on f =
+    test (eqb k 5) (λ e. rw e (before-spot c l b sp n y (on (omega (arith, eqb-true k 5 e))))) (λ e5.
+    test (eqb k 6) (λ e. rw (e5, e) (after-spot c l b sp n y (on (omega (arith, eqb-true k 6 e))))) (λ e6.
+    test (eqb k 1 || eqb k 2)
+    (λ e. rw (e5, e6, e) (subst (λ (r : List Notice). Spot c l n (found (half c) (suc (n .due)) b) r) (by-behind n l)
+    (found-spot c l b sp n (suc (n .due)) o)))
+    (λ e.
+    test (eqb (n .due) now)
+    (λ q. rw (e5, e6, e, q) (subst (λ (r : List Notice). Spot c l n (half c - 1) r)
+    (sym (front-first n now l (omega (arith, eqb-true (n .due) now q)) f)) (first-spot c l b sp n)))
+    (λ q. rw (e5, e6, e, q) (subst (λ (r : List Notice). Spot c l n (found (half c) (n .due) b) r) (by-front n l)
+    (found-spot c l b sp n (n .due) o))))))

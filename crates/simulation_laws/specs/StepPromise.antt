@@ -38,7 +38,8 @@ pub process-in : (c : Counts) (x : ℕ) → orNone (isProcess c x) x ≡ true �
 process-in c x e =
     let l : x < c .heads + c .processes + 1 =
     none-or (isProcess c x) x (c .heads + c .processes)
-    (λ f. let p = both (ltb (c .heads) x) (leb x (c .heads + c .processes)) f in omega (arith, leb-true x (c .heads + c .processes) (p .1))) e in
+    (λ f. let p = both (ltb (c .heads) x) (leb x (c .heads + c .processes)) f in omega (arith, leb-true x (c .heads + c .processes) (p .1)))
+    e in
     omega arith
 
 pub y-in : (c : Counts) (k x y : ℕ) → timedNeed c k x y ≡ true → yPlace c k y < half c
@@ -81,7 +82,8 @@ module _ (c : Counts) (k x y : ℕ) where
 -- ---- refused by an operand, or on to the procedure
 
 module _ (m : ℕ) (b : Bool) (o : Outcome) (axis times : List ℕ) where
-  pub refused-3 : AxisSound m axis → b ≡ false → Answers m (if b then o else turnedDown Operand (sqs axis times)) axis times (Refused Operand)
+  pub refused-3 : AxisSound m axis → b ≡ false → Answers m (if b then o else turnedDown Operand (sqs axis times)) axis times
+      (Refused Operand)
   refused-3 s e = record { is = rw e; sound = s }
 
   pub passed-3 : (d : Outcome) (r : Answer) → b ≡ true → Answers m o axis times r → Answers m (if b then o else d) axis times r

@@ -13,7 +13,8 @@ use Rattle.simulation_laws.specs.Orders.{Before, Next}
 use Rattle.simulation_laws.specs.Plain.{placed}
 use Rattle.simulation_laws.specs.NoticeLaws.{Ins, ins-back, drop-old, drop-dist, drop-sorted, drop-back, drop-due}
 use Rattle.simulation_laws.specs.PutLaws.{last-ins, front-ins, last-stands, front-stands}
-use Rattle.simulation_laws.specs.BesideLaws.{before-ins, after-ins, before-next, after-next, before-pre, after-pre, before-post, after-post}
+use Rattle.simulation_laws.specs.BesideLaws.{before-ins, after-ins, before-next, after-next, before-pre, after-pre, before-post}
+use Rattle.simulation_laws.specs.BesideLaws.{after-post}
 
 -- ---- hold: behind all of equal time
 
@@ -60,7 +61,8 @@ module _ (y : ℕ) (n : Notice) (ns : List Notice) where
   unfolding placed
   is-after k e = rw e
 
-module _ (k y : ℕ) (n : Notice) (old : List Notice) (o : InOrder old) (d : Dist (whos old)) (g : 5 ≤ k → In y (whos old) × (y ≢ n .who)) where
+module _ (k y : ℕ) (n : Notice) (old : List Notice) (o : InOrder old) (d : Dist (whos old))
+    (g : 5 ≤ k → In y (whos old) × (y ≢ n .who)) where
   abbrev ns : List Notice
   ns = dropped (n .who) old
 

@@ -14,7 +14,7 @@ use Rattle.model.specs.declared.answer.Answer.{Answer}
 use Rattle.model.specs.declared.answer.Answer.the-variants.{Done, Refused}
 use Rattle.model_laws.specs.Now.{AxisSound, firstOf, nextPlace, prevPlace, idleOn, timeOf}
 use Rattle.simulation_laws.specs.Procedures.{Sqs, made, found, dropOn, putOn, heldAt, held, passivated, cancelled, finishedMarks, dueAt, placeFor, putByClause, activated}
-use Rattle.simulation_laws.specs.Promise.{sqs, Left, Answers, AnswersMarked, Place, Stored, Read, Lone, Vain, Beside, Due, capped-in, capped-out}
+use Rattle.simulation_laws.specs.Promise.{sqs, Left, Answers, AnswersMarked, Place, Stored, Read, Lone, Vain, BesideIdle, Due, capped-in, capped-out}
 
 pub dropped-by : (m x y z : ℕ) (a a′ t t′ : List ℕ) → y ≡ x → Made m (unlinked m y a) a′ → z ≡ x → Stored z 0 t t′ → Left m (dropOn m x (sqs a t)) a′ t′
 unfolding dropOn
@@ -163,7 +163,7 @@ module _ (m : ℕ) (a t : List ℕ) where
       unfolding activated
       active-5 so l = record { is = rw (sym (va .is) ∙ e, now-is, lt-leb (dueAt k y d w t) limit (capped-out (dueAt k y d w t) u (du .is) l)); sound = so }
 
-      module _ (l : u ≤ limit) (b : Bool) (be : Beside k y a b) where
+      module _ (l : u ≤ limit) (b : Bool) (be : BesideIdle k y a b) where
         due-u : dueAt k y d w t ≡ u
         due-u = capped-in (dueAt k y d w t) u (du .is) l
 

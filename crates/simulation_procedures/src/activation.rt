@@ -19,7 +19,7 @@ ghost use Rattle.model.specs.Counts.{limit};
 ghost use Rattle.model_laws.specs.Now.{AxisSound};
 ghost use Rattle.simulation_laws.specs.Procedures.{placeFor, putByClause, activated};
 ghost use Rattle.simulation_laws.specs.Plain.{above};
-ghost use Rattle.simulation_laws.specs.Promise.{sqs, Left, Answers, Place, Vain, Beside, Due};
+ghost use Rattle.simulation_laws.specs.Promise.{sqs, Left, Answers, Place, Vain, BesideIdle, Due};
 
 // Whether ACTIVATE has no effect.
 pub fn is_vain(axis: &[u32], m: usize, marks: &[u8], again: bool, k: u8, x: u32, y: u32) -> bool
@@ -71,7 +71,7 @@ pub(crate) fn due_at(times: &[u64], k: u8, y: u32, d: u64, time: u64) -> u64
 pub(crate) fn beside_idle(axis: &[u32], m: usize, k: u8, y: u32) -> bool
     requires { ⌜ AxisSound m (now axis) ⌝ }
     requires { ⌜ y < m ⌝ }
-    ensures { λ r. ⌜ Beside k y (now (axis .entry)) r ⌝ }
+    ensures { λ r. ⌜ BesideIdle k y (now (axis .entry)) r ⌝ }
 {
     if k < 5 {
         return false;
@@ -129,7 +129,8 @@ pub fn schedule(
     requires { ⌜ y < m ⌝ }
     requires { ⌜ m ≤ 1026 ⌝ }
     requires { ⌜ u ≤ limit ⌝ }
-    ensures { λ _. ⌜ Left m (putByClause m k x y time u (sqs (now (axis .entry)) (now (times .entry)))) (now (axis .exit)) (now (times .exit)) ⌝ }
+    ensures { λ _. ⌜ Left m (putByClause m k x y time u (sqs (now (axis .entry)) (now (times .entry)))) (now (axis .exit))
+        (now (times .exit)) ⌝ }
 {
     drop(axis, m, times, x);
     let q = place_for(axis, m, times, k, y, time, u);
@@ -152,7 +153,8 @@ pub fn activate(
     requires { ⌜ x < m ⌝ }
     requires { ⌜ y < m ⌝ }
     requires { ⌜ m ≤ 1026 ⌝ }
-    ensures { λ r. ⌜ Answers m (activated m again k x y d (now (marks .entry)) (sqs (now (axis .entry)) (now (times .entry)))) (now (axis .exit)) (now (times .exit)) r ⌝ }
+    ensures { λ r. ⌜ Answers m (activated m again k x y d (now (marks .entry)) (sqs (now (axis .entry)) (now (times .entry))))
+        (now (axis .exit)) (now (times .exit)) r ⌝ }
 {
     if is_vain(axis, m, marks, again, k, x, y) {
         return Answer::Done;

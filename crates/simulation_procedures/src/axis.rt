@@ -105,7 +105,8 @@ pub(crate) fn put(axis: &mut [u32], m: usize, times: &mut [u64], x: u32, q: u32,
 pub(crate) fn move_to(axis: &mut [u32], m: usize, times: &mut [u64], x: u32, w: u64, u: u64)
     requires { ⌜ AxisSound m (now axis) ⌝ }
     requires { ⌜ First m x (now axis) (now times) ⌝ }
-    ensures { λ _. ⌜ Left m (putOn m x (found m w (dropOn m x (sqs (now (axis .entry)) (now (times .entry))))) u (dropOn m x (sqs (now (axis .entry)) (now (times .entry))))) (now (axis .exit)) (now (times .exit)) ⌝ }
+    ensures { λ _. ⌜ Left m (putOn m x (found m w (dropOn m x (sqs (now (axis .entry)) (now (times .entry))))) u
+        (dropOn m x (sqs (now (axis .entry)) (now (times .entry))))) (now (axis .exit)) (now (times .exit)) ⌝ }
 {
     drop_first(axis, m, times, x);
     let q = seek(axis, m, times, w);

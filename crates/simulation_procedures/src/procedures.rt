@@ -109,7 +109,9 @@ pub fn cancel(axis: &mut [u32], m: usize, times: &mut [u64], x: u32) -> Answer
 pub fn finish(axis: &mut [u32], m: usize, times: &mut [u64], marks: &mut [u8]) -> Answer
     requires { ⌜ AxisSound m (now axis) ⌝ }
     requires { ⌜ Led m (now axis) (now times) ⌝ }
-    ensures { λ r. ⌜ AnswersMarked m (passivated m (sqs (now (axis .entry)) (now (times .entry)))) (finishedMarks m (now (marks .entry)) (sqs (now (axis .entry)) (now (times .entry)))) (now (axis .exit)) (now (times .exit)) (now (marks .exit)) r ⌝ }
+    ensures { λ r. ⌜ AnswersMarked m (passivated m (sqs (now (axis .entry)) (now (times .entry))))
+        (finishedMarks m (now (marks .entry)) (sqs (now (axis .entry)) (now (times .entry)))) (now (axis .exit)) (now (times .exit))
+        (now (marks .exit)) r ⌝ }
 {
     if lone(axis, m) {
         return Answer::Refused(Refusal::NoNotice);

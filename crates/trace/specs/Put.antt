@@ -18,14 +18,17 @@ pub put-put : (s : List ℕ) (i : ℕ) (xs ys : List ℕ) → i + length xs ≤ 
 unfolding put
 put-put s i xs ys h =
     let head : length (take i s ++ xs) ≡ i + length xs = simp (length-append, length-take) (omega arith) in
-    let e : take i s ++ (xs ++ drop (i + length xs) s) ≡ (take i s ++ xs) ++ drop (i + length xs) s = sym (append-assoc (take i s) xs (drop (i + length xs) s)) in
+    let e : take i s ++ (xs ++ drop (i + length xs) s) ≡ (take i s ++ xs) ++ drop (i + length xs) s =
+    sym (append-assoc (take i s) xs (drop (i + length xs) s)) in
     ap (λ (l : List ℕ). take (i + length xs) l ++ (ys ++ drop (i + length xs + length ys) l)) e
-    ∙ ap (λ (l : List ℕ). l ++ (ys ++ drop (i + length xs + length ys) ((take i s ++ xs) ++ drop (i + length xs) s))) (take-at (take i s ++ xs) (drop (i + length xs) s) (i + length xs) head)
+    ∙ ap (λ (l : List ℕ). l ++ (ys ++ drop (i + length xs + length ys) ((take i s ++ xs) ++ drop (i + length xs) s)))
+    (take-at (take i s ++ xs) (drop (i + length xs) s) (i + length xs) head)
     ∙ ap (λ (l : List ℕ). (take i s ++ xs) ++ (ys ++ l)) (past head)
     ∙ append-assoc (take i s) xs (ys ++ drop (i + length (xs ++ ys)) s)
     ∙ ap (λ (l : List ℕ). take i s ++ l) (sym (append-assoc xs ys (drop (i + length (xs ++ ys)) s)))
   where
-    past : length (take i s ++ xs) ≡ i + length xs → drop (i + length xs + length ys) ((take i s ++ xs) ++ drop (i + length xs) s) ≡ drop (i + length (xs ++ ys)) s
+    past : length (take i s ++ xs) ≡ i + length xs → drop (i + length xs + length ys) ((take i s ++ xs) ++ drop (i + length xs) s)
+        ≡ drop (i + length (xs ++ ys)) s
     past head =
         ap (λ (n : ℕ). drop (n + length ys) ((take i s ++ xs) ++ drop (i + length xs) s)) (sym head)
         ∙ drop-append-add (take i s ++ xs) (drop (i + length xs) s) (length ys)

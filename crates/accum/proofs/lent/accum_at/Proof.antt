@@ -50,7 +50,7 @@ use Rattle.model.proofs.answer.Answer as An
 use Rattle.model.proofs.answer.Answer.Laws as An′
 use Rattle.accum_laws.specs.Keeps.{zero-accumulator}
 use Rattle.accum_laws.specs.Calls.{accumOne, accumAt, pickOf}
-use Rattle.accum_laws.specs.Picks.{Found, pick-found, pick-not}
+use Rattle.accum_laws.specs.Picks.{PickFound, pick-found, pick-not}
 use Rattle.accum_laws.specs.declared.Accumulator.{Accumulator}
 use Rattle.accum_laws.specs.declared.Kept as kept-declared
 use Rattle.accum_laws.specs.declared.Picked as picked-declared
@@ -202,7 +202,7 @@ module _ {M : Type 1} (𝓤 : URA M) (H : Heap 𝓤) (A : Atoms 𝓤) (W : Given
         move ! (34 ∷ 35 ∷ []) $ free1 ! $ move ! (32 ∷ 33 ∷ []) $ free1 ! $ move ! (30 ∷ 31 ∷ []) $ free1 ! $ move ! (28 ∷ 29 ∷ []) $ free1 ! $ move ! (26 ∷ 27 ∷ []) $ free1 ! $ move ! (24 ∷ 25 ∷ []) $ free1 ! $ move ! (22 ∷ 23 ∷ []) $ free1 ! $ move ! (20 ∷ 21 ∷ []) $ free1 ! $ move ! (18 ∷ 19 ∷ []) $ free1 ! $ move ! (16 ∷ 17 ∷ []) $ free1 ! $ move ! (14 ∷ 15 ∷ []) $ free1 ! $ move ! (12 ∷ 13 ∷ []) $ free1 ! $ move ! (10 ∷ 11 ∷ []) $ free1 ! $ move ! (8 ∷ 9 ∷ []) $ free1 ! $ move ! (6 ∷ 7 ∷ []) $ free1 ! $ move ! (4 ∷ 5 ∷ []) $ free1 ! $ free0 ! $
         by ! (exits ys refl (p .answer) (refusal-is p _ is) (pick-not (L .counts) (model L) ys k p e d (held (p .refused) y))))
         (λ y.
-        let f : Found (L .counts) (model L) ys k p = pick-found (L .counts) (model L) ys k p e (failed (p .refused) y) in
+        let f : PickFound (L .counts) (model L) ys k p = pick-found (L .counts) (model L) ys k p e (failed (p .refused) y) in
         let i : ℕ = p .at in
         let t : ℕ = p .time in
         let h : Accumulator = getD ys i zero-accumulator in

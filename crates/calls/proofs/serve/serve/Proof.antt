@@ -1,12 +1,12 @@
 use mathlib.Core.Path.{_≡_}
 use lib.ListN.{length}
-use Rattle.calls.specs.Flow.{Within}
+use Rattle.calls.specs.Flow.{FlowFits}
 use borrow.Author.Needs.{needs}
 use Rattle.calls.proofs.serve.serve.Statement.{statement}
 use Rattle.calls.proofs.serve.serve.Tie as tie
 
 abbrev Inv-loop : tie.InvT-loop
-Inv-loop input₀ output₀ flow₀ turns₀ input output flow turns = Within flow (length input) (length output) × (length input ≡ length input₀) × (length output ≡ length output₀)
+Inv-loop input₀ output₀ flow₀ turns₀ input output flow turns = FlowFits flow (length input) (length output) × (length input ≡ length input₀) × (length output ≡ length output₀)
 
 abbrev μ-loop : tie.MeasureT-loop
 μ-loop input₀ output₀ flow₀ turns₀ input output flow turns = turns

@@ -6,7 +6,8 @@ use Rattle.run_laws.specs.Run.{lent, turnsOn}
 use Rattle.run_laws.specs.Tried.{isApart}
 use Rattle.run_laws.specs.Standing.{its-judged, in-positions, in-times}
 use Rattle.run_laws.specs.StepIs.{stayed, to-next, jumps-to}
-use Rattle.run_laws.specs.Stretching.{Stretching, stretching-start, its-call, in-table, lengths, its-number, most-bytes, its-line, stopped, stays, stands-on, next-kept, moves, fills, waits}
+use Rattle.run_laws.specs.Stretching.{Stretching, stretching-start, its-call, in-table, lengths, its-number, most-bytes, its-line, stopped, stays, stands-on, next-kept, moves}
+use Rattle.run_laws.specs.StretchEnds.{fills, waits}
 use borrow.Author.Needs.{needs}
 use native.Mathlib.Omega.{arith}
 use Rattle.run_turn.proofs.stretch.stretch.Statement.{statement}

@@ -1,13 +1,13 @@
 use mathlib.Core.Path.{refl}
 use borrow.Author.Needs.{needs}
-use Rattle.sheet.specs.AllTo.{Left, left-start, left-turn, left-break, left-out}
+use Rattle.sheet.specs.AllTo.{Remaining, left-start, left-turn, left-break, left-out}
 use Rattle.sheet.specs.Accepted.{layoutFine}
 use Rattle.sheet.specs.Tests.{shown, refuted}
 use Rattle.sheet_check.proofs.check.records_fine.Statement.{statement}
 use Rattle.sheet_check.proofs.check.records_fine.Tie as tie
 
 abbrev Inv-loop : tie.InvT-loop
-Inv-loop sheet header r₀ r = Left (layoutFine sheet header) (header .records) r
+Inv-loop sheet header r₀ r = Remaining (layoutFine sheet header) (header .records) r
 
 abbrev μ-loop : tie.MeasureT-loop
 μ-loop sheet header r₀ r = r

@@ -1,13 +1,13 @@
 use lib.Dec.{leb}
 use borrow.Author.Tests.{le-leb, lt-leb}
 use borrow.Author.Needs.{needs}
-use Rattle.sheet.specs.AllTo.{Left, left-start, left-turn, left-break, left-out}
+use Rattle.sheet.specs.AllTo.{Remaining, left-start, left-turn, left-break, left-out}
 use Rattle.sheet.specs.Sheet.{startAt}
 use Rattle.sheet_check.proofs.check.starts_fine.Statement.{statement}
 use Rattle.sheet_check.proofs.check.starts_fine.Tie as tie
 
 abbrev Inv-loop : tie.InvT-loop
-Inv-loop sheet header p₀ p = Left (λ k. leb (startAt sheet k) (header .records)) (header .counts .processes) p
+Inv-loop sheet header p₀ p = Remaining (λ k. leb (startAt sheet k) (header .records)) (header .counts .processes) p
 
 abbrev μ-loop : tie.MeasureT-loop
 μ-loop sheet header p₀ p = p

@@ -1,6 +1,6 @@
 use borrow.Author.Needs.{needs}
-use Rattle.run_step.proofs.arms.into_of.Statement.{statement}
-use Rattle.run_step.proofs.arms.into_of.Tie as tie
+use Rattle.run_step.proofs.set_arms.into_of.Statement.{statement}
+use Rattle.run_step.proofs.set_arms.into_of.Tie as tie
 
 x-of-requires : tie.Need-x-of-requires
 x-of-requires c κs = c .before .before .before .pre .0

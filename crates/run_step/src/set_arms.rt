@@ -1,0 +1,71 @@
+// The set calls of a record whose bytes begin at i, one for each operation: an operand is resolved where its call uses it.
+use crate::reading::x_of;
+use crate::reading::y_of;
+use model::Counts;
+use model::answer::Answer;
+use simset::steps::clear;
+use simset::steps::follow;
+use simset::steps::into;
+use simset::steps::out;
+use simset::steps::precede;
+ghost use Prim.Native.Nat.{_+_};
+ghost use Rattle.model.specs.Counts.{total};
+ghost use Rattle.simset_laws.specs.Calls.{outStep, followStep, precedeStep, intoStep, clearStep};
+ghost use Rattle.simset_laws.specs.Promise.{Moved};
+ghost use Rattle.sheet.specs.Sheet.{recordFrom};
+ghost use Rattle.run_laws.specs.OnTables.{operandWith};
+ghost use Rattle.run_laws.specs.Needs.{Readable};
+
+pub(crate) fn out_of(c: Counts, sheet: &[u8], i: usize, links: &mut [u32], f: u32) -> Answer
+    requires { ⌜ Readable c (now sheet) i (now links) f (recordFrom (now sheet) i .x) ⌝ }
+    ensures { λ r. ⌜ Moved (total c + 1) (outStep c (operandWith c (now (links .entry)) f (recordFrom (now (sheet .entry)) i .x))
+        (now (links .entry))) (record { links = now (links .exit); answer = r }) ⌝ }
+{
+    let x = x_of(c, sheet, i, links, f);
+    out(c, links, x)
+}
+
+pub(crate) fn follow_of(c: Counts, sheet: &[u8], i: usize, links: &mut [u32], f: u32) -> Answer
+    requires { ⌜ Readable c (now sheet) i (now links) f (recordFrom (now sheet) i .x) ⌝ }
+    requires { ⌜ Readable c (now sheet) i (now links) f (recordFrom (now sheet) i .y) ⌝ }
+    ensures { λ r. ⌜ Moved (total c + 1) (followStep c (operandWith c (now (links .entry)) f (recordFrom (now (sheet .entry)) i .x))
+        (operandWith c (now (links .entry)) f (recordFrom (now (sheet .entry)) i .y)) (now (links .entry)))
+        (record { links = now (links .exit); answer = r }) ⌝ }
+{
+    let x = x_of(c, sheet, i, links, f);
+    let y = y_of(c, sheet, i, links, f);
+    follow(c, links, x, y)
+}
+
+pub(crate) fn precede_of(c: Counts, sheet: &[u8], i: usize, links: &mut [u32], f: u32) -> Answer
+    requires { ⌜ Readable c (now sheet) i (now links) f (recordFrom (now sheet) i .x) ⌝ }
+    requires { ⌜ Readable c (now sheet) i (now links) f (recordFrom (now sheet) i .y) ⌝ }
+    ensures { λ r. ⌜ Moved (total c + 1) (precedeStep c (operandWith c (now (links .entry)) f (recordFrom (now (sheet .entry)) i .x))
+        (operandWith c (now (links .entry)) f (recordFrom (now (sheet .entry)) i .y)) (now (links .entry)))
+        (record { links = now (links .exit); answer = r }) ⌝ }
+{
+    let x = x_of(c, sheet, i, links, f);
+    let y = y_of(c, sheet, i, links, f);
+    precede(c, links, x, y)
+}
+
+pub(crate) fn into_of(c: Counts, sheet: &[u8], i: usize, links: &mut [u32], f: u32) -> Answer
+    requires { ⌜ Readable c (now sheet) i (now links) f (recordFrom (now sheet) i .x) ⌝ }
+    requires { ⌜ Readable c (now sheet) i (now links) f (recordFrom (now sheet) i .y) ⌝ }
+    ensures { λ r. ⌜ Moved (total c + 1) (intoStep c (operandWith c (now (links .entry)) f (recordFrom (now (sheet .entry)) i .x))
+        (operandWith c (now (links .entry)) f (recordFrom (now (sheet .entry)) i .y)) (now (links .entry)))
+        (record { links = now (links .exit); answer = r }) ⌝ }
+{
+    let x = x_of(c, sheet, i, links, f);
+    let y = y_of(c, sheet, i, links, f);
+    into(c, links, x, y)
+}
+
+pub(crate) fn clear_of(c: Counts, sheet: &[u8], i: usize, links: &mut [u32], f: u32) -> Answer
+    requires { ⌜ Readable c (now sheet) i (now links) f (recordFrom (now sheet) i .x) ⌝ }
+    ensures { λ r. ⌜ Moved (total c + 1) (clearStep c (operandWith c (now (links .entry)) f (recordFrom (now (sheet .entry)) i .x))
+        (now (links .entry))) (record { links = now (links .exit); answer = r }) ⌝ }
+{
+    let x = x_of(c, sheet, i, links, f);
+    clear(c, links, x)
+}
