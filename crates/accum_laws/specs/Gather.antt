@@ -14,12 +14,11 @@ use Rattle.model.specs.declared.Refusal.the-variants.{Size}
 use Rattle.model.specs.Counts.{both}
 use Rattle.model.specs.declared.answer.Answer.{Answer}
 use Rattle.model.specs.declared.answer.Answer.the-variants.{Refused as Turned}
-use Rattle.model.specs.declared.verdict.Verdict.the-variants.{Fine, Refused as Judged}
 use Rattle.model_laws.specs.Tables.{Tables}
 use Rattle.accum_laws.specs.declared.Accumulator.{Accumulator}
 use Rattle.accum_laws.specs.Keeps.{zero-accumulator}
 use Rattle.accum_laws.specs.Flat.{wordsAt, withWords, with-length}
-use Rattle.accum_laws.specs.Triples.{flat, flat-length, flattened, Listed}
+use Rattle.accum_laws.specs.Triples.{flat, flat-length, flattened}
 use Rattle.accum_laws.specs.Calls.{countFine, listFine, listJudged, accumListed, accumAt}
 use Rattle.accum_laws.specs.Promise.{words-are}
 use Rattle.accum_laws.specs.Runs.{listed-flat}

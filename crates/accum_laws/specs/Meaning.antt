@@ -1,7 +1,7 @@
 -- What the calls of accum mean, for every well-formed model: the update at the model's time, by value, on a number of a flat list, and on
 -- a number of a list of structs; 1 exactly for a list that is not as said, 3 exactly for a number that is not in it. And on any tables a
 -- refused call changes no word.
-use Prim.Native.Nat.{ℕ, _-_}
+use Prim.Native.Nat.{ℕ}
 use mathlib.Core.Path.{_≡_, refl, ap, _∙_}
 use mathlib.Core.Bool.{Bool, true, false}
 use mathlib.Core.List.{List}
@@ -24,7 +24,7 @@ use Rattle.accum_laws.specs.declared.Updated.{Updated}
 use Rattle.accum_laws.specs.declared.Updated.the-variants.{To, Refused}
 use Rattle.accum_laws.specs.Update.{updatedOf}
 use Rattle.accum_laws.specs.Flat.{wordsAt, wordPlace, stored, updatedIn}
-use Rattle.accum_laws.specs.Triples.{Listed, numbered, listAfter, updatedAt}
+use Rattle.accum_laws.specs.Triples.{numbered, listAfter, updatedAt}
 use Rattle.accum_laws.specs.Calls.{keptOf, accumOne, keeping, accumAlone, countFine, listFine, numberFine, listJudged, changing}
 use Rattle.accum_laws.specs.Calls.{accumListed, listing, accumAt}
 

@@ -1,7 +1,6 @@
 -- The calls that a step can make, and what each does to the machine's lists. A refused call changes nothing.
 use Prim.Native.Nat.{ℕ, _-_}
 use mathlib.Core.Bool.{Bool}
-use mathlib.Core.List.{List}
 use lib.IntN.{ℤ}
 use lib.ListN.{set}
 use Rattle.model.specs.declared.Counts.{Counts}

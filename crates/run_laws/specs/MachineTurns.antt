@@ -33,7 +33,7 @@ use Rattle.sheet.specs.Fields.{Ranged}
 use Rattle.machine.specs.declared.End.{End}
 use Rattle.machine.specs.Machine.{Machine}
 use Rattle.machine.specs.Calls.{Call, onList, accum, listsAfter, lifted, storing, perform}
-use Rattle.machine.specs.Steps.{recordOf, recordNow, nextOf, callNow, nextNow, lineNow, Turn, ended, stepped, step, movedOn}
+use Rattle.machine.specs.Steps.{recordOf, recordNow, nextOf, callNow, nextNow, lineNow, Turn, ended, stepped, movedOn}
 use Rattle.machine.specs.Run.{turn, onward}
 use Rattle.machine.specs.History.{Stepwise, placing, placingOf, listPlacing, ifStepped}
 use Rattle.machine_laws.specs.StepLaws.{stepwise-same}

@@ -14,7 +14,6 @@ use Rattle.model_laws.specs.Now.{half, firstOf}
 use Rattle.sheet.specs.Sheet.{recordOffset}
 use Rattle.machine.specs.declared.End.the-variants.{Finished, Refused as Ended}
 use Rattle.machine.specs.Run.{lineSize}
-use Rattle.run_laws.specs.declared.Turn.{Turn}
 use Rattle.run_laws.specs.declared.Turn.the-variants.{Finished as AtEnd, Made, Refused as NotMade}
 use Rattle.run_laws.specs.Run.{RunTables, runOf, Turned, On, Off, Stepped, recordGot, recordAtNow, stepOn, endsNow, TurnedOn, turnBy}
 use Rattle.run_laws.specs.Run.{turnOn, RanOn, stoppedOn}

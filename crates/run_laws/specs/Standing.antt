@@ -1,5 +1,5 @@
 -- A run's tables that spell a machine: what a step's code needs follows from that.
-use Prim.Native.Nat.{ℕ, zero, suc, _+_, _-_, _≤_, _<_}
+use Prim.Native.Nat.{ℕ, zero, suc, _+_, _≤_, _<_}
 use mathlib.Core.Path.{_≡_, sym, ap, _∙_, subst}
 use mathlib.Core.Logic.{_≢_}
 use mathlib.Core.Bool.{true}
@@ -8,7 +8,7 @@ use native.Mathlib.Omega.{arith}
 use lib.ListN.{length, getD}
 use Rattle.model.specs.declared.Counts.{Counts}
 use Rattle.model.specs.Counts.{Allowed}
-use Rattle.model_laws.specs.Tables.{Tables, Sized, Spells}
+use Rattle.model_laws.specs.Tables.{Sized, Spells}
 use Rattle.model_laws.specs.Ready.{Ready, formed-ready}
 use Rattle.model_laws.specs.Once.{spelled-sized}
 use Rattle.model_laws.specs.Now.{half, timeOf, firstOf}

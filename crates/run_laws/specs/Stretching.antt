@@ -23,7 +23,7 @@ use Rattle.run_laws.specs.declared.Effect.the-variants.{Refused}
 use Rattle.run_laws.specs.declared.Pause.the-variants.{Refused as Stopped}
 use Rattle.run_laws.specs.Run.{RunTables, runOf, On, recordGot, endsNow, RanOn, stoppedOn, turnsOn}
 use Rattle.run_laws.specs.Performed.{Performed, performed, turnedBy}
-use Rattle.run_laws.specs.Tried.{apart, tried, isApart, apart-0, made-of, not-apart}
+use Rattle.run_laws.specs.Tried.{tried, isApart, apart-0, made-of, not-apart}
 use Rattle.run_laws.specs.Paused.{Paused}
 use Rattle.run_laws.specs.Needs.{Performable}
 use Rattle.run_laws.specs.Reads.{got-end}

@@ -1,6 +1,6 @@
 -- Demand 2 for the class SIMSET: for every well-formed model each set call does what the plain call does to the lists, refused by 3 on its
 -- condition alone and then with every word as it was; and a query answers what the lists say, or 3 on its condition.
-use Prim.Native.Nat.{ℕ, _+_, _-_, _<_}
+use Prim.Native.Nat.{ℕ, _+_, _<_}
 use mathlib.Core.Path.{_≡_, refl, ap, _∙_}
 use mathlib.Core.Bool.{Bool, true, _&&_}
 use mathlib.Core.List.{List}

@@ -14,7 +14,7 @@ use Rattle.model.specs.Counts.{limit, main, isHead, isProcess}
 use Rattle.model_laws.specs.Notices.{Notice, whos, From, InOrder}
 use Rattle.model_laws.specs.Tables.{Lists}
 use Rattle.model_laws.specs.Result.{need, done, refused, Result}
-use Rattle.model_laws.specs.Now.{first, time, current}
+use Rattle.model_laws.specs.Now.{time, current}
 use Rattle.simset_laws.specs.Calls.{orNone}
 use Rattle.simset_laws.specs.Sets.{precedeSets}
 use Rattle.simset_laws.specs.Plain.{withSets}

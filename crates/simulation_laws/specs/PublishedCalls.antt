@@ -5,7 +5,7 @@
 use Prim.Native.Nat.{ℕ, _+_}
 use mathlib.Core.Path.{_≡_, refl, sym, ap, _∙_, subst}
 use mathlib.Core.Logic.{_≢_, inl}
-use mathlib.Core.Bool.{Bool, true, false, not}
+use mathlib.Core.Bool.{Bool, not}
 use mathlib.Core.List.{List, [], _∷_}
 use native.Mathlib.Omega.{arith}
 use lib.Dec.{eqb, leb}
@@ -22,7 +22,7 @@ use Rattle.model_laws.specs.Formed.{notice-each, notice-process}
 use Rattle.model_laws.specs.Called.{called}
 use Rattle.model_laws.specs.Result.{Follows, need, done, Result}
 use Rattle.model_laws.specs.NowLaws.{Split, splits}
-use Rattle.model_laws.specs.Now.{first, time, current}
+use Rattle.model_laws.specs.Now.{time, current}
 use Rattle.simset_laws.specs.Calls.{orNone}
 use Rattle.simset_laws.specs.Sets.{precedeSets}
 use Rattle.simset_laws.specs.Plain.{withSets}

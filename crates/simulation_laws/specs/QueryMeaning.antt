@@ -6,7 +6,6 @@ use mathlib.Core.Bool.{Bool, true, false, not}
 use mathlib.Core.List.{List, [], _∷_}
 use native.Mathlib.Omega.{arith}
 use lib.Dec.{eqb, leb, ltb}
-use lib.ListN.{getD}
 use lib.Seq.{getD-take}
 use borrow.Author.Tests.{eq-eqb, ne-eqb, leb-true, ltb-true}
 use Rattle.ring_laws.specs.Lists.{if_then_else_, In, decide, test}
@@ -30,7 +29,7 @@ use Rattle.model_laws.specs.Reading.{who-place}
 use Rattle.model_laws.specs.NowLaws.{Split, splits, current-now, time-now}
 use Rattle.model_laws.specs.Now.{time, current, half, nextPlace}
 use Rattle.simulation_laws.specs.Places.{SpellsTime, Process, chain, off-head, is-process, times-at, member}
-use Rattle.simulation_laws.specs.Agree.{its-time, st}
+use Rattle.simulation_laws.specs.Agree.{its-time}
 use Rattle.simulation_laws.specs.AgreeEnds.{Party, has-in, idle-has}
 use Rattle.simulation_laws.specs.AgreeTimed.{marks-at}
 

@@ -1,9 +1,9 @@
 -- Activate and reactivate in the tables' order: X's earlier notice is dropped, then the new one is placed. `timed` has the papers' order,
 -- in which the new notice is placed while the earlier one still stands. Both leave the same lists.
-use Prim.Native.Nat.{ℕ, suc, _≤_, _-_, _<_}
+use Prim.Native.Nat.{ℕ, suc, _≤_, _<_}
 use mathlib.Core.Path.{_≡_, refl, sym, ap, _∙_}
 use mathlib.Core.Logic.{_≢_, inl, inr}
-use mathlib.Core.Bool.{Bool, true, false, _||_, not}
+use mathlib.Core.Bool.{Bool, true, false, _||_}
 use mathlib.Core.List.{List, [], _∷_}
 use native.Mathlib.Omega.{arith}
 use lib.Dec.{eqb}
