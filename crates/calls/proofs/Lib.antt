@@ -1,2 +1,3 @@
 -- laws that the code's proofs cite
 pub mod Parts
+pub mod OneLine

@@ -14,8 +14,9 @@ use sheet::header::Header;
 use sheet_check::check::check;
 use trace::LINE_BYTES;
 ghost use mathlib.Core.Path.{_≡_};
-ghost use mathlib.Core.Bool.{true};
-ghost use Prim.Native.Nat.{_≤_};
+ghost use mathlib.Core.Bool.{_&&_};
+ghost use Prim.Native.Nat.{_*_, _≤_};
+ghost use lib.Dec.{eqb, leb, ltb};
 ghost use lib.ListN.{length};
 ghost use Rattle.sheet.specs.declared.header.Checked.the-variants.{Accepted};
 ghost use Rattle.sheet.specs.Accepted.{checked};
@@ -24,7 +25,7 @@ ghost use Rattle.run_laws.specs.Run.{lent};
 ghost use Rattle.run_laws.specs.Standing.{Standing};
 
 pub(crate) fn has(call: u32, len: usize) -> bool
-    ensures { λ r. ⌜ (r ≡ true → lineSize ≤ len) ⌝ }
+    ensures { λ r. ⌜ r ≡ (eqb call 43 && (leb lineSize len && ltb len (2 * lineSize))) ⌝ }
 {
     if call != 43 {
         return false;

@@ -1,4 +1,5 @@
 use borrow.Author.Needs.{needs}
+use Rattle.calls.proofs.OneLine.{line-there}
 use Rattle.calls.proofs.answer.answer.Statement.{statement}
 use Rattle.calls.proofs.answer.answer.Tie as tie
 
@@ -6,6 +7,9 @@ has-requires : tie.Need-has-requires
 has-requires c κs = search needs
 
 -- The places that the answer looks back to: `search` finds each by its type.
+abbrev start : tie.Start → tie.Start
+start x = x
+
 abbrev after-has : tie.After-has → tie.After-has
 after-has x = x
 
@@ -13,7 +17,7 @@ abbrev then1 : tie.Then1 → tie.Then1
 then1 x = x
 
 answer-requires : tie.Need-answer-requires
-answer-requires c κs = after-has (search) .has .ensures (then1 (search) .if1 .taken)
+answer-requires c κs = line-there (start (search) .args .head .call) _ _ (after-has (search) .has .ensures) (then1 (search) .if1 .taken)
 
 same-length : tie.Need-same-length
 same-length c = search needs
