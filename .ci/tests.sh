@@ -36,31 +36,50 @@ one() {
     fi
 }
 
-# The C edge: its programs build without a warning, and the example prints the worked sheet's run.
+# The C edge: its programs build without a warning, as C and, for the header, as C++.
 edge() {
     local strict=(-Wall -Wextra -Werror -Iinclude) lib=target/staticlib/libhost.a
-    rm -f target/host_example target/host_guard target/host_zones
+    rm -f target/host_*
     rt staticlib host > target/staticlib.log 2>&1 &&
         cc -O2 "${strict[@]}" examples/host.c "$lib" -o target/host_example &&
+        cc -O2 "${strict[@]}" tests/host/edges.c "$lib" -o target/host_edges &&
         cc -O2 "${strict[@]}" tests/host/serve.c "$lib" -o target/host_guard &&
         cc -g -fsanitize=address,undefined "${strict[@]}" tests/host/serve.c "$lib" -o target/host_zones &&
-        diff <(target/host_example examples/worked.sheet) crates/run_print/stdout
+        cc -x c++ -fsyntax-only "${strict[@]}" include/nodbrize.h
 }
 
-# Checks the page of levels, builds the tests and runs them on the programs: so many calls, and sheets of runs, of the printing program
-# and of the C edge.
+# The scripts in bash, by shellcheck, which a fresh machine may not have.
+scripts() {
+    command -v shellcheck > /dev/null || { apt-get update && apt-get install -y shellcheck; } > target/shellcheck.log 2>&1
+    shellcheck -x run sheet test desk/setup.sh .ci/* bench/run tests/*.sh tests/*/*.sh
+}
+
+# Checks the page of levels, builds the tests and runs them on the programs: so many calls, and sheets of runs, of the printing program,
+# of the C edge, and of the desk.
 run_tests() {
-    local calls=$1 runs=$2 prints=$3 hosts=$4
-    local tests=target/tests/release/nodbrize_tests
+    local calls=$1 runs=$2 prints=$3 hosts=$4 shown=$5
+    local tests=target/tests/release/nodbrize_tests desk=target/desk/release/desk
     tally one levels python3 docs/levels.py --check
+    tally one scripts scripts
     cargo build --quiet --release --manifest-path tests/Cargo.toml --target-dir target/tests || failed=$((failed + 1))
     tally "$tests" self
     tally "$tests" mutations
     tally "$tests" calls target/bin/calls --count "$calls"
     tally "$tests" runs target/bin/calls --sheets "$runs"
     tally "$tests" print target/bin/run_print --sheets "$prints"
-    # sheets and traces between guards
+    # the desk: ./sheet builds it, ./run finds the engine
+    tally one desk ./sheet words
+    tally bash tests/desk/first_run.sh
+    tally bash tests/desk/commands.sh
+    tally bash tests/desk/examples.sh
+    tally python3 tests/desk/pages.py
+    tally "$tests" mistakes "$desk" tests/desk/mistakes.txt
+    tally "$tests" sheets "$desk" --sheets "$shown"
+    tally "$tests" ends "$desk" target/bin/run_print --sheets "$prints"
+    # the C edge, sheets and traces between guards
     tally one edge edge
+    tally target/host_edges examples/worked.sheet
+    tally bash tests/host/example.sh
     tally "$tests" host target/host_guard --sheets "$hosts" -- guard
     tally "$tests" host target/host_zones --sheets "$hosts" --seed 2 -- zones
 }

@@ -1,5 +1,6 @@
 //! Tests of a Simula 67 simulation engine by a plain list simulator: single calls, lists of runs, the
-//! printing program and the C edge, each compared word for word.
+//! printing program and the C edge, each compared word for word; and of the desk, whose texts must build the
+//! sheets that they show.
 
 mod check;
 mod drive;
@@ -19,9 +20,8 @@ fn main() -> ExitCode {
         Ok(options) => options,
         Err(error) => return misused(&error),
     };
-    let driving = matches!(options.command.as_str(), "calls" | "runs" | "print" | "host");
-    if driving && options.program.path.is_empty() {
-        return misused("no program to test");
+    if let Some(missing) = options.missing() {
+        return misused(missing);
     }
     match perform(&options) {
         Some(true) => ExitCode::SUCCESS,
@@ -45,6 +45,9 @@ fn perform(options: &Options) -> Option<bool> {
         "runs" => drive::runs::drive(program, options.sheets.unwrap_or(2_000), seed),
         "print" => drive::print::drive(program, options.sheets.unwrap_or(400), seed),
         "host" => drive::host::drive(program, options.sheets.unwrap_or(5_000), seed),
+        "sheets" => drive::sheets::drive(program, options.sheets.unwrap_or(2_000), seed),
+        "mistakes" => drive::mistakes::drive(program, &options.second),
+        "ends" => drive::ends::drive(program, &options.second, options.sheets.unwrap_or(400), seed),
         "serve" => {
             mutations::switch(options.mutation);
             drive::serve::requests().is_ok()

@@ -28,7 +28,7 @@ fn one(program: &Program, bytes: &[u8], tally: &mut Tally) {
     }
 }
 
-fn describe(bytes: &[u8]) -> String {
+pub fn describe(bytes: &[u8]) -> String {
     match sheet::decode(bytes) {
         Ok(sheet) => sheet_text(&sheet),
         Err(_) => format!("a sheet of {} bytes that is refused with 8\n", bytes.len()),
@@ -36,7 +36,7 @@ fn describe(bytes: &[u8]) -> String {
 }
 
 /// The first line that differs.
-fn difference(wanted: &str, got: &[u8]) -> String {
+pub fn difference(wanted: &str, got: &[u8]) -> String {
     let got = String::from_utf8_lossy(got);
     let mut lines = wanted.split('\n').zip(got.split('\n')).enumerate();
     match lines.find(|(_, (w, g))| w != g) {

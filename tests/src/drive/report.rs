@@ -51,7 +51,11 @@ pub fn describe(request: &Request, note: &str) -> String {
     if !note.is_empty() {
         let _ = writeln!(out, "damage: {note}");
     }
-    let counts = if matches!(c.number, number::RUN | number::FRESH | number::TURN) { describe_sheet(&mut out, &request.sheet) } else { n };
+    let counts = if matches!(c.number, number::RUN | number::FRESH | number::TURN) {
+        describe_sheet(&mut out, &request.sheet)
+    } else {
+        n
+    };
     describe_tables(&mut out, counts, &request.lent.tables);
     if !request.lent.accums.is_empty() {
         let _ = writeln!(out, "accumulators {}", accums(&request.lent.accums));

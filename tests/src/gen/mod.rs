@@ -2,6 +2,7 @@
 
 pub mod accums;
 pub mod damage;
+pub mod extreme;
 pub mod models;
 pub mod operands;
 pub mod prints;
@@ -11,6 +12,7 @@ pub mod run_lists;
 pub mod runs;
 pub mod sheet_damage;
 pub mod sheets;
+pub mod shown;
 pub mod special;
 pub mod stream;
 

@@ -1,0 +1,105 @@
+//! Sheets shown as texts by the desk: the text of every accepted sheet builds the same bytes again.
+
+use super::child::Program;
+use super::desk::{Desk, Ended};
+use super::print::{describe, difference};
+use super::tally::Tally;
+use crate::gen::shown::ShownSource;
+use crate::sim::sheet;
+
+/// The sheet, its text, and the sheet built from the text.
+const SHEET: &str = "model.sheet";
+const TEXT: &str = "model.txt";
+const AGAIN: &str = "again.sheet";
+const AGAIN_MAP: &str = "again.sheet.map";
+
+/// Compares so many sheets with those built from their texts.
+pub fn drive(program: &Program, sheets: u64, seed: u64) -> bool {
+    let mut tally = Tally::new("sheets", 500);
+    let desk = match Desk::new(program, "sheets") {
+        Ok(desk) => desk,
+        Err(error) => {
+            tally.fail(&error);
+            return tally.close();
+        }
+    };
+    let mut source = ShownSource::new(seed);
+    for _ in 0..sheets {
+        if tally.failed() {
+            break;
+        }
+        let bytes = source.next();
+        match one(&desk, &bytes) {
+            Ok(()) => tally.pass(),
+            Err(error) => tally.fail(&format!("{}{error}", describe(&bytes))),
+        }
+    }
+    tally.close()
+}
+
+fn one(desk: &Desk, bytes: &[u8]) -> Result<(), String> {
+    desk.write(SHEET, bytes)?;
+    desk.remove(&[TEXT, AGAIN, AGAIN_MAP]);
+    match sheet::decode(bytes) {
+        Ok(_) => accepted(desk, bytes),
+        Err(_) => refused(&desk.start(&["show", SHEET])?),
+    }
+}
+
+/// Shown, checked, built, and shown once more with the map beside it.
+fn accepted(desk: &Desk, bytes: &[u8]) -> Result<(), String> {
+    let text = shown(desk, SHEET)?;
+    desk.write(TEXT, &text)?;
+    done("check", &desk.start(&["check", TEXT])?)?;
+    done("build", &desk.start(&["build", TEXT, AGAIN])?)?;
+    let again = desk.read(AGAIN)?;
+    if again != bytes {
+        return Err(format!("its text builds other bytes: {}", first_other(bytes, &again)));
+    }
+    if !desk.has(AGAIN_MAP) {
+        return Err("no map beside the sheet that was built".to_string());
+    }
+    let text = String::from_utf8_lossy(&text).into_owned();
+    let twice = shown(desk, AGAIN)?;
+    if twice != text.as_bytes() {
+        return Err(format!("another text with its map beside it: {}", difference(&text, &twice)));
+    }
+    Ok(())
+}
+
+/// What show prints, with nothing on standard error.
+fn shown(desk: &Desk, name: &str) -> Result<Vec<u8>, String> {
+    let ended = desk.start(&["show", name])?;
+    done("show", &ended)?;
+    if !ended.err.is_empty() {
+        return Err(format!("show {name} says on standard error: {}", ended.err));
+    }
+    Ok(ended.out)
+}
+
+/// Exit status 0, and nothing but warnings on standard error.
+fn done(what: &str, ended: &Ended) -> Result<(), String> {
+    let warned = ended.err.lines().all(|line| line.contains(": warning: "));
+    if ended.status == Some(0) && warned {
+        return Ok(());
+    }
+    Err(format!("{what}: exit status {:?}, standard error: {}", ended.status, ended.err))
+}
+
+/// Exit status 1 and one line that says so.
+fn refused(ended: &Ended) -> Result<(), String> {
+    let begin = format!("{SHEET}: error: this is no sheet: ");
+    let told = ended.err.starts_with(&begin) && ended.err.ends_with('\n') && ended.err.lines().count() == 1;
+    if ended.status == Some(1) && told && ended.out.is_empty() {
+        return Ok(());
+    }
+    let out = ended.out.len();
+    Err(format!("show: exit status {:?}, {out} bytes of output, standard error: {}", ended.status, ended.err))
+}
+
+fn first_other(wanted: &[u8], got: &[u8]) -> String {
+    match wanted.iter().zip(got).position(|(w, g)| w != g) {
+        Some(at) => format!("byte {at}: wanted {}, got {}", wanted[at], got[at]),
+        None => format!("wanted {} bytes, got {}", wanted.len(), got.len()),
+    }
+}
