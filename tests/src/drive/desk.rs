@@ -1,6 +1,8 @@
 //! The desk under test: a command line tool, started in a folder of the test's own.
 
 use super::child::Program;
+use super::print::describe;
+use super::tally::Tally;
 use std::fs;
 use std::io::Read;
 use std::path::{Path, PathBuf};
@@ -62,6 +64,22 @@ impl Desk {
     pub fn remove(&self, names: &[&str]) {
         for name in names {
             let _ = fs::remove_file(self.folder.path.join(name));
+        }
+    }
+}
+
+/// Tries one sheet after the other, until one fails.
+pub fn try_sheets(
+    tally: &mut Tally,
+    sheets: u64,
+    mut next: impl FnMut() -> Vec<u8>,
+    one: impl Fn(&[u8]) -> Result<(), String>,
+) {
+    for _ in 0..sheets {
+        let bytes = next();
+        match one(&bytes) {
+            Ok(()) => tally.pass(),
+            Err(error) => return tally.fail(&format!("{}{error}", describe(&bytes))),
         }
     }
 }

@@ -1,8 +1,8 @@
 //! Runs told by the desk: the printed run byte for byte, the exit status, and why it did not finish.
 
 use super::child::Program;
-use super::desk::{absolute, Desk, Ended};
-use super::print::{describe, difference};
+use super::desk::{absolute, try_sheets, Desk, Ended};
+use super::print::difference;
 use super::tally::Tally;
 use crate::gen::prints::PrintSource;
 use crate::sim::print;
@@ -14,23 +14,12 @@ const SHEET: &str = "model.sheet";
 /// Compares what is told of so many runs.
 pub fn drive(program: &Program, printer: &str, sheets: u64, seed: u64) -> bool {
     let mut tally = Tally::new("ends", 100);
-    let (desk, printer) = match (Desk::new(program, "ends"), absolute(printer)) {
-        (Ok(desk), Ok(printer)) => (desk, printer),
-        (Err(error), _) | (_, Err(error)) => {
-            tally.fail(&error);
-            return tally.close();
-        }
-    };
     let mut source = PrintSource::new(seed);
-    for _ in 0..sheets {
-        if tally.failed() {
-            break;
+    match (Desk::new(program, "ends"), absolute(printer)) {
+        (Ok(desk), Ok(printer)) => {
+            try_sheets(&mut tally, sheets, || source.next(), |bytes| one(&desk, &printer, bytes));
         }
-        let bytes = source.next();
-        match one(&desk, &printer, &bytes) {
-            Ok(()) => tally.pass(),
-            Err(error) => tally.fail(&format!("{}{error}", describe(&bytes))),
-        }
+        (Err(error), _) | (_, Err(error)) => tally.fail(&error),
     }
     tally.close()
 }

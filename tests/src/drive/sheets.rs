@@ -1,8 +1,8 @@
 //! Sheets shown as texts by the desk: the text of every accepted sheet builds the same bytes again.
 
 use super::child::Program;
-use super::desk::{Desk, Ended};
-use super::print::{describe, difference};
+use super::desk::{try_sheets, Desk, Ended};
+use super::print::difference;
 use super::tally::Tally;
 use crate::gen::shown::ShownSource;
 use crate::sim::sheet;
@@ -16,23 +16,10 @@ const AGAIN_MAP: &str = "again.sheet.map";
 /// Compares so many sheets with those built from their texts.
 pub fn drive(program: &Program, sheets: u64, seed: u64) -> bool {
     let mut tally = Tally::new("sheets", 500);
-    let desk = match Desk::new(program, "sheets") {
-        Ok(desk) => desk,
-        Err(error) => {
-            tally.fail(&error);
-            return tally.close();
-        }
-    };
     let mut source = ShownSource::new(seed);
-    for _ in 0..sheets {
-        if tally.failed() {
-            break;
-        }
-        let bytes = source.next();
-        match one(&desk, &bytes) {
-            Ok(()) => tally.pass(),
-            Err(error) => tally.fail(&format!("{}{error}", describe(&bytes))),
-        }
+    match Desk::new(program, "sheets") {
+        Ok(desk) => try_sheets(&mut tally, sheets, || source.next(), |bytes| one(&desk, bytes)),
+        Err(error) => tally.fail(&error),
     }
     tally.close()
 }
