@@ -123,16 +123,12 @@ impl Reader<'_> {
 
     /// No such name; with what comes near to it.
     fn no_name(&mut self, name: &str, place: Place, wants: Wants) {
-        let kinds: &[Kind] = match wants {
-            Wants::Head | Wants::HeadOrNone => &[Kind::Head],
-            Wants::ProcessOrNone => &[Kind::Process],
-            Wants::Link => &[Kind::Process, Kind::Link],
-            Wants::LinkageOrNone => &[Kind::Head, Kind::Process, Kind::Link],
-        };
+        let kinds = [Kind::Head, Kind::Process, Kind::Link].into_iter().filter(|kind| kind.will_do(wants));
+        let kinds: Vec<Kind> = kinds.collect();
         if self.declared.is_lost(name) || self.report.is_full() {
             return self.report.follow_up();
         }
-        let mut hint = self.declared.like(name, kinds);
+        let mut hint = self.declared.like(name, &kinds);
         if hint.is_empty() {
             hint = meant(name, OWN.into_iter());
         }
