@@ -93,8 +93,8 @@ model <<< $'    wait q\na:\n    end\nb:\n    end'
 refused "the last one waits" "model.txt:5: refused 4 at tick 0, record 1: main could not do 'wait q':\
  nobody else is scheduled, and nobody could go on" "  idle: a, b" "  $stay"
 model <<< $'    activate a delay 3\n    wait q\na:\n    activate b\nb:\n    hold 4'
-refused "the last one ends" "model.txt:9: refused 4 at tick 7, record 0: b could not end: nobody else is scheduled, and nobody could go on" \
-    "  idle: main (in q)" "  at their end: a" "  $stay"
+refused "the last one ends" "model.txt:9: refused 4 at tick 7, record 0: b could not end:\
+ nobody else is scheduled, and nobody could go on" "  idle: main (in q)" "  at their end: a" "  $stay"
 model <<< $'    hold 1099511627775\n    activate a delay 1\na:\n    end\nb:\n    end'
 refused "a delay past the latest tick" "model.txt:6: refused 5 at tick 1099511627775, record 2: main could not do 'activate a delay 1':\
  tick 1099511627776 is above the latest, 1099511627775"

@@ -1,6 +1,6 @@
 #!/usr/bin/env python3
-"""pages.py: runs what the pages show. A block behind 'Save this as `NAME`:' is written to that file; in any other block a line '$ COMMAND' is
-run, and what it prints, on standard output and standard error, has to be the lines below it; '..' stands for any lines.
+"""pages.py: runs what the pages show. A block behind 'Save this as `NAME`:' is written to that file. In any other block a line '$ COMMAND'
+is run, and what it prints, on standard output and standard error, has to be the lines below it; '..' stands for any lines.
 The last line is 'pages: N passed, M failed'."""
 import os
 import re
