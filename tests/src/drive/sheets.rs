@@ -1,11 +1,13 @@
-//! Sheets shown as texts by the desk: the text of every accepted sheet builds the same bytes again.
+//! Sheets shown as texts by the desk: the text of every accepted sheet builds the same bytes again. And texts written apart from the desk,
+//! which have to build the sheets that they were written from.
 
 use super::child::Program;
 use super::desk::{try_sheets, Desk, Ended};
 use super::print::difference;
 use super::tally::Tally;
 use crate::gen::shown::ShownSource;
-use crate::sim::sheet;
+use crate::gen::texts;
+use crate::sim::sheet::{self, Sheet};
 
 /// The sheet, its text, and the sheet built from the text.
 const SHEET: &str = "model.sheet";
@@ -28,7 +30,10 @@ fn one(desk: &Desk, bytes: &[u8]) -> Result<(), String> {
     desk.write(SHEET, bytes)?;
     desk.remove(&[TEXT, AGAIN, AGAIN_MAP]);
     match sheet::decode(bytes) {
-        Ok(_) => accepted(desk, bytes),
+        Ok(sheet) => {
+            accepted(desk, bytes)?;
+            written(desk, &sheet, bytes)
+        }
         Err(_) => refused(&desk.start(&["show", SHEET])?),
     }
 }
@@ -52,6 +57,18 @@ fn accepted(desk: &Desk, bytes: &[u8]) -> Result<(), String> {
         return Err(format!("another text with its map beside it: {}", difference(&text, &twice)));
     }
     Ok(())
+}
+
+/// The text that is written here builds the sheet.
+fn written(desk: &Desk, sheet: &Sheet, bytes: &[u8]) -> Result<(), String> {
+    desk.write(TEXT, texts::text(sheet).as_bytes())?;
+    desk.remove(&[AGAIN, AGAIN_MAP]);
+    done("build of a text written apart", &desk.start(&["build", TEXT, AGAIN])?)?;
+    let built = desk.read(AGAIN)?;
+    if built == bytes {
+        return Ok(());
+    }
+    Err(format!("a text written apart builds other bytes: {}\n{}", first_other(bytes, &built), texts::text(sheet)))
 }
 
 /// What show prints, with nothing on standard error.

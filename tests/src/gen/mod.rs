@@ -15,6 +15,7 @@ pub mod sheets;
 pub mod shown;
 pub mod special;
 pub mod stream;
+pub mod texts;
 
 use crate::protocol::Request;
 
