@@ -71,6 +71,7 @@ run_tests() {
     tally one desk ./sheet words
     tally bash tests/desk/first_run.sh
     tally bash tests/desk/commands.sh
+    tally bash tests/desk/seldom.sh
     tally bash tests/desk/examples.sh
     tally python3 tests/desk/pages.py
     tally "$tests" mistakes "$desk" tests/desk/mistakes.txt

@@ -36,6 +36,14 @@ impl Map {
         &self.names[number as usize]
     }
 
+    /// The name, the statement and the line of a printed step; nothing if the model has no such process or record.
+    pub fn step(&self, process: u64, record: u64) -> Option<(&str, &str, u32)> {
+        let name = self.names.get(usize::try_from(process).ok()?)?;
+        let Some(at) = record.checked_sub(1) else { return Some((name, "end", 0)) };
+        let entry = self.records.get(usize::try_from(at).ok()?)?;
+        Some((name, &entry.statement, entry.line))
+    }
+
     /// The map as text; `of` is the sheet that it belongs to.
     pub fn write(&self, counts: Counts, of: &[u8]) -> String {
         let list = |from: u32, to: u32| names::listed(&self.names[from as usize + 1..=to as usize]).join(" ");

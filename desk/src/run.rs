@@ -120,13 +120,12 @@ fn step(line: &str) -> Option<[u64; 3]> {
     Some([numbers.next()??, numbers.next()??, numbers.next()??])
 }
 
-/// The line with the name and the statement beside its numbers.
+/// The line with the name and the statement beside its numbers, where the model has them.
 fn beside(line: &str, [_, process, record]: [u64; 3], map: &Map) -> String {
-    let statement = match record {
-        0 => "end",
-        _ => &map.records[record as usize - 1].statement,
-    };
-    format!("{:<18} {:<10} {statement}", line.trim_end(), map.name(process as u32))
+    match map.step(process, record) {
+        Some((name, statement, _)) => format!("{:<18} {name:<10} {statement}", line.trim_end()),
+        None => line.trim_end().to_string(),
+    }
 }
 
 impl Seen {
@@ -176,16 +175,13 @@ fn differs(what: &str) -> String {
 
 fn stopped(path: &str, map: &Map, seen: &Seen) -> String {
     let [time, process, record] = seen.step;
-    let entry = record.checked_sub(1).map(|at| &map.records[at as usize]);
-    let statement = entry.map_or("end", |entry| &entry.statement);
-    let name = map.name(process as u32);
     let mut words =
         format!("{path}: stopped after {} steps at tick {time}: main has not come to its end\n", seen.steps);
     let here = seen.steps - seen.since + 1;
     if here >= LONG_AT_ONE_TICK {
         words += &format!("  the last {here} steps were all at tick {time}: perhaps a loop without a hold above 0\n");
     }
-    let line = entry.map_or(0, |entry| entry.line);
+    let Some((name, statement, line)) = map.step(process, record) else { return words };
     let line = if line == 0 { String::new() } else { format!(" on line {line}") };
     words + &format!("  the last step: {name}, '{statement}'{line}\n")
 }

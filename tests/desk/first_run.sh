@@ -99,6 +99,8 @@ both() {
     cat one two
 }
 try "two at a time" both
+wants 0 <<< "./run: waiting for another build .."
+try "the second says that it waits" eval 'cat one.err two.err | grep waiting'
 called "were built once" 7
 
 mv tools/rt tools/not_rt
@@ -108,5 +110,11 @@ try "no kit" run worked.sheet
 echo >> copy/desk/src/main.rs
 wants 1 "./run: cargo is not on the path: Rust builds the desk's tool" < /dev/null
 try "no cargo" run worked.sheet
+
+printf '#!/usr/bin/env bash\necho "error: a word of the compiler" >&2\nexit 101\n' > tools/cargo
+chmod +x tools/cargo
+wants 1 "./run: building the desk's tool, once .." "./run: the desk's tool could not be built; the end of $work/copy/target/desk.log:" \
+    "error: a word of the compiler" < /dev/null
+try "a desk that does not build" run worked.sheet
 
 close "first run"

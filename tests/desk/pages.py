@@ -56,31 +56,45 @@ def edit(command):
         text.write(content.replace(old, new))
 
 
+def save(before, block):
+    """Writes the text that the page says to save; the commands that follow it are not part of it."""
+    saved = re.search(r'Save this as `([\w.]+)`:$', before)
+    if saved:
+        end = next((i for i, line in enumerate(block) if line.startswith('$ ')), len(block))
+        with open(saved.group(1), 'w', encoding='utf-8') as text:
+            text.write('\n'.join(block[:end]) + '\n')
+
+
+def holds(page, command, wanted):
+    """Whether a command prints what the page says."""
+    if command in EDITED:
+        edit(command)
+    got = subprocess.run(command, shell=True, stdout=subprocess.PIPE, stderr=subprocess.STDOUT, check=False).stdout.decode()
+    fine = fits([line for line in wanted if line], got)
+    if not fine:
+        print('failed: %s: %s: it prints, at its end\n%s' % (page, command, got[-2000:]))
+    return fine
+
+
+def try_page(page):
+    """What became of each command of a page; a page without any is none that is shown to be right."""
+    told = []
+    for before, block in blocks(os.path.join(ROOT, page)):
+        save(before, block)
+        told += [holds(page, command, wanted) for command, wanted in commands(block)]
+    if not told:
+        print('failed: %s: no command' % page)
+    return told or [False]
+
+
 def main():
-    passed = failed = 0
     with tempfile.TemporaryDirectory() as folder:
         os.chdir(folder)
         for name in ('run', 'sheet', 'examples'):
             os.symlink(os.path.join(ROOT, name), name)
-        for page in PAGES:
-            for before, block in blocks(os.path.join(ROOT, page)):
-                saved = re.search(r'Save this as `([\w.]+)`:$', before)
-                if saved:
-                    # the commands that follow a text are not part of it
-                    end = next((i for i, line in enumerate(block) if line.startswith('$ ')), len(block))
-                    with open(saved.group(1), 'w', encoding='utf-8') as text:
-                        text.write('\n'.join(block[:end]) + '\n')
-                for command, wanted in commands(block):
-                    if command in EDITED:
-                        edit(command)
-                    got = subprocess.run(command, shell=True, stdout=subprocess.PIPE, stderr=subprocess.STDOUT, check=False)
-                    if fits([line for line in wanted if line], got.stdout.decode()):
-                        passed += 1
-                    else:
-                        failed += 1
-                        print('failed: %s: %s: it prints, at its end\n%s' % (page, command, got.stdout.decode()[-2000:]))
-    print('pages: %d passed, %d failed' % (passed, failed))
-    sys.exit(failed != 0)
+        told = [fine for page in PAGES for fine in try_page(page)]
+    print('pages: %d passed, %d failed' % (told.count(True), told.count(False)))
+    sys.exit(False in told)
 
 
 if __name__ == '__main__':

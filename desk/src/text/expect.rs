@@ -1,9 +1,9 @@
 //! What was expected in a statement, and what stands there instead.
 
+use super::closing::found;
 use super::hints::{begins_statement, meant_word};
 use super::statement::Reader;
 use super::token::{Placed, Token};
-use super::turns::found;
 use crate::operations::Part;
 use crate::report::Place;
 

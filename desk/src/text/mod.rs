@@ -1,6 +1,7 @@
 //! Texts: a model in words, read into a sheet and its map.
 
 mod body;
+mod closing;
 mod declare;
 mod expect;
 mod flow;
@@ -15,7 +16,6 @@ mod outline;
 mod range;
 mod statement;
 mod token;
-mod turns;
 mod unused;
 mod words;
 

@@ -1,4 +1,4 @@
-//! 'goto' and 'end', which make no record: they say where the statement before them goes on.
+//! 'goto' and 'end', which make no record: they close the statement before them, and say where it goes on.
 
 use super::flow::{Before, Reader};
 use super::token::Line;
