@@ -9,8 +9,8 @@ use std::fmt::Write;
 /// Columns that a list of names fills before it goes on with the next line.
 const WIDTH: usize = 100;
 
-/// Records that follow each other and go on to none outside, and the processes that begin in them.
-struct Part {
+/// A body: records that follow each other and go on to none outside, and the processes that begin in them.
+struct Body {
     first: u32,
     last: u32,
     /// By the record where they begin; 0 is the end.
@@ -22,9 +22,9 @@ pub fn show(sheet: &Sheet, names: &Names) -> String {
     let mut out = String::new();
     lists(&mut out, sheet.counts, names);
     let label = stem(names);
-    for part in parts(sheet) {
+    for body in bodies(sheet) {
         out.push('\n');
-        body(&mut out, sheet, names, &part, &|record| format!("{label}{record}"));
+        write(&mut out, sheet, names, &body, &|record| format!("{label}{record}"));
     }
     out
 }
@@ -56,20 +56,20 @@ fn stem(names: &Names) -> String {
     stem
 }
 
-/// Cuts the records where nothing goes across, and gives each process its part. A part that no process begins in goes with the one before.
-fn parts(sheet: &Sheet) -> Vec<Part> {
+/// Cuts the records where nothing goes across, and gives each process its body. Records that no process begins in go with the body before.
+fn bodies(sheet: &Sheet) -> Vec<Body> {
     let starts_in = |first: u32, last: u32| sheet.starts.iter().any(|start| (first..=last).contains(start));
-    let mut parts: Vec<Part> = Vec::new();
+    let mut bodies: Vec<Body> = Vec::new();
     let mut first = 1;
     for last in cuts(sheet) {
-        match parts.last_mut() {
+        match bodies.last_mut() {
             Some(before) if !starts_in(first, last) || !starts_in(before.first, before.last) => before.last = last,
-            _ => parts.push(Part { first, last, owners: BTreeMap::new() }),
+            _ => bodies.push(Body { first, last, owners: BTreeMap::new() }),
         }
         first = last + 1;
     }
-    own(sheet, &mut parts);
-    parts
+    own(sheet, &mut bodies);
+    bodies
 }
 
 /// The records behind which the sheet can be cut: none goes from one side to the other.
@@ -90,53 +90,53 @@ fn cuts(sheet: &Sheet) -> Vec<u32> {
     (1..=size).filter(behind).collect()
 }
 
-/// Gives each process to the part that it begins in. Those that end at once have a part without records, or else the only one.
-fn own(sheet: &Sheet, parts: &mut Vec<Part>) {
+/// Gives each process the body that it begins in. Those that end at once have one without records, or else the only one.
+fn own(sheet: &Sheet, bodies: &mut Vec<Body>) {
     let none_begins = sheet.starts.iter().all(|start| *start == 0);
     let ends_at_once = sheet.starts.contains(&0);
-    if ends_at_once && (!none_begins || parts.is_empty()) {
-        parts.push(Part { first: 1, last: 0, owners: BTreeMap::new() });
+    if ends_at_once && (!none_begins || bodies.is_empty()) {
+        bodies.push(Body { first: 1, last: 0, owners: BTreeMap::new() });
     }
     for (p, start) in sheet.starts.iter().enumerate() {
-        let at = parts.iter().position(|part| (part.first..=part.last).contains(start)).unwrap_or(parts.len() - 1);
-        parts[at].owners.entry(*start).or_default().push(sheet.counts.main() + p as u32);
+        let at = bodies.iter().position(|body| (body.first..=body.last).contains(start)).unwrap_or(bodies.len() - 1);
+        bodies[at].owners.entry(*start).or_default().push(sheet.counts.main() + p as u32);
     }
 }
 
 /// One body: its processes, then a line for each record and each way that is not simply on.
-fn body(out: &mut String, sheet: &Sheet, names: &Names, part: &Part, label: &dyn Fn(u32) -> String) {
+fn write(out: &mut String, sheet: &Sheet, names: &Names, body: &Body, label: &dyn Fn(u32) -> String) {
     let mut header = Vec::new();
-    for (start, owners) in &part.owners {
+    for (start, owners) in &body.owners {
         let owners: Names = owners.iter().map(|owner| names[*owner as usize].clone()).collect();
-        let at_first = *start == part.first || part.last == 0;
+        let at_first = *start == body.first || body.last == 0;
         let from = if at_first { String::new() } else { format!(" from {}", label(*start)) };
         header.extend(listed(&owners).iter().map(|item| format!("{item}{from}")));
     }
     let _ = writeln!(out, "{}:", header.join(", "));
-    let targets = targets(sheet, part);
-    for number in part.first..=part.last {
+    let targets = targets(sheet, body);
+    for number in body.first..=body.last {
         let record = sheet.record(number);
         let own = if targets.contains(&number) { format!("{}: ", label(number)) } else { String::new() };
         let _ = writeln!(out, "    {own}{}", statement(record, names, label));
         match record.next {
-            0 if number < part.last => out.push_str("    end\n"),
+            0 if number < body.last => out.push_str("    end\n"),
             next if next != 0 && next != number + 1 => {
                 let _ = writeln!(out, "    goto {}", label(next));
             }
             _ => {}
         }
     }
-    if part.last == 0 {
+    if body.last == 0 {
         out.push_str("    end\n");
-    } else if part.owners.contains_key(&0) {
+    } else if body.owners.contains_key(&0) {
         let _ = writeln!(out, "    {}: end", label(0));
     }
 }
 
-/// The records of a part that need a label.
-fn targets(sheet: &Sheet, part: &Part) -> BTreeSet<u32> {
-    let mut targets: BTreeSet<u32> = part.owners.keys().filter(|start| **start != part.first).copied().collect();
-    for number in part.first..=part.last {
+/// The records of a body that need a label.
+fn targets(sheet: &Sheet, body: &Body) -> BTreeSet<u32> {
+    let mut targets: BTreeSet<u32> = body.owners.keys().filter(|start| **start != body.first).copied().collect();
+    for number in body.first..=body.last {
         let record = sheet.record(number);
         targets.extend(sheet.ways_on(number).skip(1));
         if record.next != number + 1 {
