@@ -1,31 +1,42 @@
-// The trace: a line is the time (64 bits), the process (32) and the record (32), little-endian, 16 bytes in all.
+// The trace: a line is the time (64 bits), the process (32) and the record (32), little-endian, 16 bytes in all. Where a line goes and
+// whether it fits is found with no division, remainder or multiplication; a test reads the source for them.
 // Core functions: the caller knows that what is written lies within the slice.
+mod bytes;
+
+use crate::bytes::put_u32;
+use crate::bytes::put_u64;
 ghost use mathlib.Core.Path.{_≡_};
-ghost use Prim.Native.Nat.{_+_, _≤_};
+ghost use Prim.Native.Nat.{_+_, _/_, _≤_};
 ghost use lib.ListN.{length};
-ghost use Rattle.trace.specs.Lines.{put, bytes4, bytes8, lineBytes};
+ghost use Rattle.trace.specs.Fits.{pastLast};
+ghost use Rattle.trace.specs.Lines.{put, lineBytes};
 
 // Bytes of a line.
 pub const LINE_BYTES: usize = 16;
 
-// The four bytes of x at i, the lowest first.
-fn put_u32(s: &mut [u8], i: usize, x: u32)
-    requires { ⌜ i + 4 ≤ length (now s) ⌝ }
-    ensures { λ _. ⌜ now (s .exit) ≡ put (now (s .entry)) i (bytes4 x) ⌝ }
+// One behind the last byte that a line may begin at in a trace of len bytes, or 0: a line fits at the bytes below it, and at no other.
+pub fn past_last(len: usize) -> usize
+    ensures { λ r. ⌜ r ≡ pastLast len ⌝ }
 {
-    s[i] = (x % 256) as u8;
-    s[i + 1] = (x / 256 % 256) as u8;
-    s[i + 2] = (x / 256 / 256 % 256) as u8;
-    s[i + 3] = (x / 256 / 256 / 256 % 256) as u8;
+    if len < LINE_BYTES {
+        return 0;
+    }
+    len - LINE_BYTES + 1
 }
 
-// The eight bytes of x at i, the lowest first.
-fn put_u64(s: &mut [u8], i: usize, x: u64)
-    requires { ⌜ i + 8 ≤ length (now s) ⌝ }
-    ensures { λ _. ⌜ now (s .exit) ≡ put (now (s .entry)) i (bytes8 x) ⌝ }
+// How many lines fit in len bytes: bytes and lines are counted side by side.
+pub fn lines_in(len: usize) -> u32
+    requires { ⌜ len ≤ 65536 ⌝ }
+    ensures { λ r. ⌜ r ≡ len / 16 ⌝ }
 {
-    put_u32(s, i, (x % 4294967296) as u32);
-    put_u32(s, i + 4, (x / 4294967296) as u32);
+    let stop = past_last(len);
+    let mut at = 0;
+    let mut n = 0;
+    while at < stop {
+        at += LINE_BYTES;
+        n += 1;
+    }
+    n
 }
 
 // A line at i.

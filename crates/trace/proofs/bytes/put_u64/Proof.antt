@@ -5,8 +5,8 @@ use mathlib.Core.List.{List}
 use Prim.Native.Nat.{ℕ, _+_, _/_, _%_}
 use borrow.Author.Needs.{needs}
 use native.Mathlib.Omega.{arith}
-use Rattle.trace.proofs.put_u64.Statement.{statement}
-use Rattle.trace.proofs.put_u64.Tie as tie
+use Rattle.trace.proofs.bytes.put_u64.Statement.{statement}
+use Rattle.trace.proofs.bytes.put_u64.Tie as tie
 
 cast-put-u32 : tie.Need-cast-put-u32
 cast-put-u32 c = search needs

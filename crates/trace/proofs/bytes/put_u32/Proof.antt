@@ -3,8 +3,8 @@ use Rattle.trace.specs.Lines.{bytes4}
 use lib.ListN.{length-set}
 use borrow.Author.Needs.{needs}
 use native.Mathlib.Omega.{arith}
-use Rattle.trace.proofs.put_u32.Statement.{statement}
-use Rattle.trace.proofs.put_u32.Tie as tie
+use Rattle.trace.proofs.bytes.put_u32.Statement.{statement}
+use Rattle.trace.proofs.bytes.put_u32.Tie as tie
 
 cast-s : tie.Need-cast-s
 cast-s c = search needs

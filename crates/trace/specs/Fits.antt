@@ -1,0 +1,11 @@
+-- Where a line may begin: document 01, "fewer than 16 trace bytes left, full".
+use Prim.Native.Nat.{ℕ, _+_, _-_, _≤_, _<_}
+use native.Mathlib.Omega.{arith}
+
+-- one behind the last byte that a line may begin at in so many bytes, or 0
+abbrev pub pastLast : ℕ → ℕ
+pastLast len = len + 1 - 16
+
+-- a line fits at i exactly where i is below it
+pub fits : (len i : ℕ) → (i < pastLast len → i + 16 ≤ len) × (i + 16 ≤ len → i < pastLast len)
+fits len i = (λ h. omega (arith, h), λ h. omega (arith, h))
