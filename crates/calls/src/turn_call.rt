@@ -33,7 +33,7 @@ pub(crate) fn has(call: u32, len: usize) -> bool
     if len < LINE_BYTES {
         return false;
     }
-    len < 2 * LINE_BYTES
+    len < LINE_BYTES + LINE_BYTES
 }
 
 // One turn, as a run call's answer.

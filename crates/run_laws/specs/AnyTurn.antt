@@ -1,6 +1,6 @@
 -- A turn whose call may be any: a stretch with room for one line, and where that leaves the call, a turn apart. Turns with room for one
 -- line come to what one turn comes to, and tell it.
-use Prim.Native.Nat.{ℕ, suc, _+_, _*_, _-_}
+use Prim.Native.Nat.{ℕ, suc, _+_, _*_, _-_, _/_}
 use mathlib.Core.Path.{_≡_, refl, sym, ap, _∙_}
 use mathlib.Core.Bool.{true, false}
 use mathlib.Core.List.{List}
@@ -100,36 +100,50 @@ module _ (c : Counts) (bytes : List ℕ) (n : ℕ) where
 
   -- ---- after a stretch with room for one line
 
-  module _ (u : RunTables) (tr : List ℕ) (u′ : RunTables) (tr′ : List ℕ) (s : Stretch)
-      (p : Paused c bytes (n + 1) n (turnsOn c bytes n (n + 1 - n) u tr) tr u′ tr′ s) where
-    to-whole : turnsOn c bytes n (n + 1 - n) u tr ≡ whole (turnOn c bytes (lineSize * n) u tr)
-    to-whole = let z : n + 1 - n ≡ 1 = omega arith in ap (λ (k : ℕ). turnsOn c bytes n k u tr) z ∙ one-turn u tr
+  module _ (i : ℕ) (place : i ≡ lineSize * n) (u : RunTables) (tr : List ℕ) (u′ : RunTables) (tr′ : List ℕ) (s : Stretch)
+      (p : Paused c bytes ((i + lineSize) / lineSize) n (turnsOn c bytes n ((i + lineSize) / lineSize - n) u tr) tr u′ tr′ s) where
+    abbrev room : ℕ
+    room = (i + lineSize) / lineSize
 
-    left-is : (k : ℕ) → s .lines + k ≡ n + 1 → (q : Pause) → s .pause ≡ q
-        → leftBy c bytes q (s .lines) k u′ tr′ ≡ whole (turnOn c bytes (lineSize * n) u tr)
-    left-is k e q eq = sym (ap (λ (x : Pause). leftBy c bytes x (s .lines) k u′ tr′) eq) ∙ p .left k e ∙ to-whole
+    one : room ≡ n + 1
+    one = omega (arith, place)
 
-    pub any-made : s .pause ≡ NoRoom → record { run = u′; trace = tr′; turn = Made } ≡ turnOn c bytes (lineSize * n) u tr
+    -- lines after the stretch
+    abbrev m : ℕ
+    m = s .at / lineSize
+
+    one-at : (v : RunTables) (tv : List ℕ) → turnsOn c bytes n 1 v tv ≡ whole (turnOn c bytes i v tv)
+    one-at v tv = one-turn v tv ∙ ap (λ (j : ℕ). whole (turnOn c bytes j v tv)) (sym place)
+
+    to-whole : turnsOn c bytes n (room - n) u tr ≡ whole (turnOn c bytes i u tr)
+    to-whole = let z : room - n ≡ 1 = omega (arith, one) in ap (λ (k : ℕ). turnsOn c bytes n k u tr) z ∙ one-at u tr
+
+    left-is : (k : ℕ) → m + k ≡ room → (q : Pause) → s .pause ≡ q
+        → leftBy c bytes q m k u′ tr′ ≡ whole (turnOn c bytes i u tr)
+    left-is k e q eq = sym (ap (λ (x : Pause). leftBy c bytes x m k u′ tr′) eq) ∙ p .left k e ∙ to-whole
+
+    pub any-made : s .pause ≡ NoRoom → record { run = u′; trace = tr′; turn = Made } ≡ turnOn c bytes i u tr
     any-made e =
-        let l : s .lines ≡ suc n = omega (arith, p .few, p .full (ap isFull e)) in
-        tells _ _ (ap (λ (k : ℕ). turnsOn c bytes k 0 u′ tr′) (sym l) ∙ left-is 0 (omega (arith, l)) NoRoom e)
+        let l : m ≡ suc n = omega (arith, one, p .few, p .full (ap isFull e)) in
+        tells _ _ (ap (λ (k : ℕ). turnsOn c bytes k 0 u′ tr′) (sym l) ∙ left-is 0 (omega (arith, one, l)) NoRoom e)
 
     pub any-refused : (x : Refusal) → s .pause ≡ Stopped x → record { run = u′; trace = tr′; turn = NotMade x }
-        ≡ turnOn c bytes (lineSize * n) u tr
+        ≡ turnOn c bytes i u tr
     any-refused x e =
-        let w : stoppedOn (s .lines) (Refused x) u′ tr′ ≡ whole (turnOn c bytes (lineSize * n) u tr) =
-        left-is (n + 1 - s .lines) (omega (arith, p .few)) (Stopped x) e in
-        tells _ _ (ap (λ (k : ℕ). stoppedOn k (Refused x) u′ tr′) (sym (at-n (turnOn c bytes (lineSize * n) u tr) w)) ∙ w)
+        let w : stoppedOn m (Refused x) u′ tr′ ≡ whole (turnOn c bytes i u tr) =
+        left-is (room - m) (omega (arith, p .few)) (Stopped x) e in
+        tells _ _ (ap (λ (k : ℕ). stoppedOn k (Refused x) u′ tr′) (sym (at-n (turnOn c bytes i u tr) w)) ∙ w)
       where
-        at-n : (o : TurnedOn) → stoppedOn (s .lines) (Refused x) u′ tr′ ≡ whole o → s .lines ≡ n
+        at-n : (o : TurnedOn) → stoppedOn m (Refused x) u′ tr′ ≡ whole o → m ≡ n
         at-n o w = go (o .turn) (o .run) (o .trace) w
           where
-            go : (t : Turn) (v : RunTables) (tv : List ℕ) → stoppedOn (s .lines) (Refused x) u′ tr′ ≡ after t v tv → s .lines ≡ n
+            go : (t : Turn) (v : RunTables) (tv : List ℕ) → stoppedOn m (Refused x) u′ tr′ ≡ after t v tv → m ≡ n
             go AtEnd v tv q = ap lines q
             go Made v tv q = clash (no-refusal v tv x (sym (ap end q)))
             go (NotMade r) v tv q = ap lines q
 
-    pub any-due : s .pause ≡ Apart → (o : TurnedOn) → o ≡ turnOn c bytes (lineSize * n) u′ tr′ → o ≡ turnOn c bytes (lineSize * n) u tr
+    pub any-due : s .pause ≡ Apart → (o : TurnedOn) → o ≡ turnOn c bytes i u′ tr′ → o ≡ turnOn c bytes i u tr
     any-due e o eo =
-        let l : s .lines ≡ n = omega (arith, p .more, p .due (ap isDue e) .0) in
-        eo ∙ tells _ _ (sym (one-turn u′ tr′) ∙ ap (λ (k : ℕ). turnsOn c bytes k 1 u′ tr′) (sym l) ∙ left-is 1 (omega (arith, l)) Apart e)
+        let l : m ≡ n = omega (arith, one, p .more, p .due (ap isDue e) .0) in
+        eo
+        ∙ tells _ _ (sym (one-at u′ tr′) ∙ ap (λ (k : ℕ). turnsOn c bytes k 1 u′ tr′) (sym l) ∙ left-is 1 (omega (arith, one, l)) Apart e)

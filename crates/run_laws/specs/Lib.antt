@@ -19,6 +19,7 @@ pub mod Refine
 pub mod StepFollows
 pub mod TurnsFollow
 pub mod Turning
+pub mod Counting
 pub mod Running
 pub mod OneTurn
 pub mod Paused

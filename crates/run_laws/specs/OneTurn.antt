@@ -86,7 +86,10 @@ no-end (Off r) e = cc
 
 module _ (c : Counts) (bytes : List ℕ) (room n : ℕ) (whole : RanOn) (u₀ : RunTables) (tr₀ : List ℕ) (u : RunTables) (tr : List ℕ)
     (t : Turning c bytes room n whole u₀ tr₀ u tr)
-    (h : n < room) (o : TurnedOn) (eo : o ≡ turnOn c bytes (lineSize * n) u tr) where
+    (h : n < room) (i : ℕ) (place : i ≡ lineSize * n) (o : TurnedOn) (is : o ≡ turnOn c bytes i u tr) where
+  eo : o ≡ turnOn c bytes (lineSize * n) u tr
+  eo = is ∙ ap (λ (j : ℕ). turnOn c bytes j u tr) place
+
   abbrev ended : Bool
   ended = endsNow c (u .model .axis) (u .positions)
 

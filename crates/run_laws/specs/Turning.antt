@@ -119,9 +119,6 @@ turning-then c bytes room n m whole part u₀ tr₀ u tr v tv t e s z l g =
 
 module _ (c : Counts) (bytes : List ℕ) (room n : ℕ) (whole : RanOn) (u₀ : RunTables) (tr₀ : List ℕ) (u : RunTables) (tr : List ℕ)
     (t : Turning c bytes room n whole u₀ tr₀ u tr) where
-  pub most-lines : n ≤ 4096
-  most-lines = omega (arith, t .few, t .room-in, t .short)
-
   pub line-fits : n < room → lineSize * n + lineSize ≤ length tr
   line-fits l = omega (arith, t .room-in, t .size)
 

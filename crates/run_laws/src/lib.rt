@@ -37,9 +37,9 @@ pub enum Pause {
     Refused(Refusal),
 }
 
-// A stretch of turns: how many lines the trace has after it, and why it ends.
+// A stretch of turns: the byte that the next line would go to, and why it ends.
 pub struct Stretch {
-    pub lines: usize,
+    pub at: usize,
     pub pause: Pause,
 }
 

@@ -15,14 +15,16 @@ use run_step::reading::record_of;
 use run_step::reading::time_of;
 use run_step::write;
 use trace::LINE_BYTES;
-ghost use Prim.Native.Nat.{_-_, _/_, _≤_};
+use trace::past_last;
+ghost use mathlib.Core.Path.{_≡_};
+ghost use Prim.Native.Nat.{_*_, _-_, _/_, _≤_};
 ghost use lib.ListN.{length};
 ghost use Rattle.run_laws.specs.Run.{lent, turnsOn};
 ghost use Rattle.run_laws.specs.Standing.{Standing};
 ghost use Rattle.run_laws.specs.Paused.{Paused};
 ghost use Rattle.machine.specs.Run.{lineSize, traceLimit};
 
-// From a trace of so many lines on, until it has room lines; the trace's place is counted in bytes.
+// The next line goes to byte `from`, behind whole lines, and so on until none fits before byte `end`.
 pub fn stretch(
     c: Counts,
     sheet: &[u8],
@@ -33,25 +35,27 @@ pub fn stretch(
     positions: &mut [u32],
     accums: &mut [i64],
     trace: &mut [u8],
-    lines: usize,
-    room: usize,
+    from: usize,
+    end: usize,
 ) -> Stretch
     requires { ⌜ Standing c (now sheet) (lent (now links) (now axis) (now times) (now marks) (now positions) (now accums)) ⌝ }
     requires { ⌜ length (now trace) ≤ traceLimit ⌝ }
-    requires { ⌜ lines ≤ room ⌝ }
-    requires { ⌜ room ≤ length (now trace) / lineSize ⌝ }
-    ensures { λ s. ⌜ Paused c (now (sheet .entry)) room lines
-        (turnsOn c (now (sheet .entry)) lines (room - lines) (lent (now (links .entry)) (now (axis .entry)) (now (times .entry))
-        (now (marks .entry)) (now (positions .entry)) (now (accums .entry))) (now (trace .entry)))
+    requires { ⌜ from ≡ lineSize * (from / lineSize) ⌝ }
+    requires { ⌜ from ≤ end ⌝ }
+    requires { ⌜ end ≤ length (now trace) ⌝ }
+    ensures { λ s. ⌜ Paused c (now (sheet .entry)) (end / lineSize) (from / lineSize)
+        (turnsOn c (now (sheet .entry)) (from / lineSize) (end / lineSize - from / lineSize)
+        (lent (now (links .entry)) (now (axis .entry)) (now (times .entry)) (now (marks .entry)) (now (positions .entry))
+        (now (accums .entry))) (now (trace .entry)))
         (now (trace .entry)) (lent (now (links .exit)) (now (axis .exit)) (now (times .exit)) (now (marks .exit)) (now (positions .exit))
         (now (accums .exit))) (now (trace .exit)) s ⌝ }
 {
-    let end = LINE_BYTES * room;
-    let mut at = LINE_BYTES * lines;
+    let stop = past_last(end);
+    let mut at = from;
     let mut f = place_now(c, axis);
     let mut time = time_of(times, f);
     let mut r = record_of(positions, f);
-    while at < end {
+    while at < stop {
         match perform(c, sheet, r, f, time, links, axis, times, marks, accums) {
             Effect::Stays => {
                 write(c, trace, f, time, r, at);
@@ -75,14 +79,14 @@ pub fn stretch(
             Effect::Apart => {
                 place(positions, f, r);
                 return Stretch {
-                    lines: at / LINE_BYTES,
+                    at,
                     pause: Pause::Apart,
                 };
             }
             Effect::Refused(q) => {
                 place(positions, f, r);
                 return Stretch {
-                    lines: at / LINE_BYTES,
+                    at,
                     pause: Pause::Refused(q),
                 };
             }
@@ -90,7 +94,7 @@ pub fn stretch(
     }
     place(positions, f, r);
     Stretch {
-        lines: at / LINE_BYTES,
+        at,
         pause: Pause::Full,
     }
 }

@@ -17,7 +17,7 @@ use run_step::reading::time_of;
 use trace::LINE_BYTES;
 ghost use mathlib.Core.Path.{_≡_};
 ghost use mathlib.Core.Bool.{true};
-ghost use Prim.Native.Nat.{_+_, _*_, _/_, _≤_, _<_};
+ghost use Prim.Native.Nat.{_+_, _*_, _/_, _≤_};
 ghost use lib.ListN.{length};
 ghost use Rattle.run_laws.specs.Run.{lent, recordGot, recordAtNow, turnOn};
 ghost use Rattle.run_laws.specs.Standing.{Standing};
@@ -67,8 +67,8 @@ pub fn turn_apart(
     }
 }
 
-// A turn whose call may be any, where the trace has n lines and room for one more: a stretch of one line, and a turn apart where that
-// leaves the call.
+// A turn whose call may be any; byte i is behind whole lines, and there is room for one more: a stretch of one line, and a turn apart where
+// that leaves the call.
 pub fn turn(
     c: Counts,
     sheet: &[u8],
@@ -79,19 +79,20 @@ pub fn turn(
     positions: &mut [u32],
     accums: &mut [i64],
     trace: &mut [u8],
-    n: usize,
+    i: usize,
 ) -> Turn
     requires { ⌜ Standing c (now sheet) (lent (now links) (now axis) (now times) (now marks) (now positions) (now accums)) ⌝ }
     requires { ⌜ length (now trace) ≤ traceLimit ⌝ }
-    requires { ⌜ n < length (now trace) / lineSize ⌝ }
+    requires { ⌜ i ≡ lineSize * (i / lineSize) ⌝ }
+    requires { ⌜ i + lineSize ≤ length (now trace) ⌝ }
     ensures { λ r. ⌜ record {
       run = lent (now (links .exit)) (now (axis .exit)) (now (times .exit)) (now (marks .exit))
           (now (positions .exit)) (now (accums .exit));
       trace = now (trace .exit);
       turn = r;
     }
-        ≡ turnOn c (now (sheet .entry)) (lineSize * n) (lent (now (links .entry)) (now (axis .entry)) (now (times .entry))
-        (now (marks .entry)) (now (positions .entry)) (now (accums .entry))) (now (trace .entry)) ⌝ }
+        ≡ turnOn c (now (sheet .entry)) i (lent (now (links .entry)) (now (axis .entry)) (now (times .entry)) (now (marks .entry))
+        (now (positions .entry)) (now (accums .entry))) (now (trace .entry)) ⌝ }
 {
     let s = stretch(
         c,
@@ -103,27 +104,24 @@ pub fn turn(
         positions,
         accums,
         trace,
-        n,
-        n + 1,
+        i,
+        i + LINE_BYTES,
     );
     let pause = s.pause;
     match pause {
         Pause::Full => Turn::Made,
         Pause::Refused(q) => Turn::Refused(q),
-        Pause::Apart => {
-            let i = LINE_BYTES * n;
-            turn_apart(
-                c,
-                sheet,
-                links,
-                axis,
-                times,
-                marks,
-                positions,
-                accums,
-                trace,
-                i,
-            )
-        }
+        Pause::Apart => turn_apart(
+            c,
+            sheet,
+            links,
+            axis,
+            times,
+            marks,
+            positions,
+            accums,
+            trace,
+            i,
+        ),
     }
 }

@@ -11,20 +11,14 @@ use run_step::reading::record_of;
 use run_turn::stretch::stretch;
 use run_turn::turn::turn_apart;
 use trace::LINE_BYTES;
+use trace::lines_in;
+use trace::past_last;
 ghost use mathlib.Core.Path.{_≡_};
 ghost use Prim.Native.Nat.{_/_, _≤_};
 ghost use lib.ListN.{length};
 ghost use Rattle.run_laws.specs.Run.{lent, turnsOn};
 ghost use Rattle.run_laws.specs.Standing.{Standing};
 ghost use Rattle.machine.specs.Run.{lineSize, traceLimit};
-
-// A count of lines, at most 4,096.
-fn count(n: usize) -> u32
-    requires { ⌜ n ≤ 4096 ⌝ }
-    ensures { λ r. ⌜ r ≡ n ⌝ }
-{
-    n as u32
-}
 
 pub fn turns(
     c: Counts,
@@ -49,9 +43,10 @@ pub fn turns(
         (lent (now (links .entry)) (now (axis .entry)) (now (times .entry)) (now (marks .entry)) (now (positions .entry))
         (now (accums .entry))) (now (trace .entry)) ⌝ }
 {
-    let room = trace.len() / LINE_BYTES;
-    let mut n = 0;
-    while n < room {
+    let end = trace.len();
+    let stop = past_last(end);
+    let mut at = 0;
+    while at < stop {
         let s = stretch(
             c,
             sheet,
@@ -62,16 +57,16 @@ pub fn turns(
             positions,
             accums,
             trace,
-            n,
-            room,
+            at,
+            end,
         );
-        n = s.lines;
+        at = s.at;
         let pause = s.pause;
         match pause {
             Pause::Full => {}
             Pause::Refused(q) => {
                 return Ran {
-                    lines: count(n),
+                    lines: lines_in(at),
                     end: End::Refused(q),
                 };
             }
@@ -85,22 +80,22 @@ pub fn turns(
                 positions,
                 accums,
                 trace,
-                LINE_BYTES * n,
+                at,
             ) {
                 Turn::Finished => {
                     return Ran {
-                        lines: count(n),
+                        lines: lines_in(at),
                         end: End::Finished,
                     };
                 }
                 Turn::Refused(q) => {
                     return Ran {
-                        lines: count(n),
+                        lines: lines_in(at),
                         end: End::Refused(q),
                     };
                 }
                 Turn::Made => {
-                    n += 1;
+                    at += LINE_BYTES;
                 }
             },
         }
@@ -109,12 +104,12 @@ pub fn turns(
     let r = record_of(positions, f);
     if is_end(f, r) {
         return Ran {
-            lines: count(n),
+            lines: lines_in(at),
             end: End::Finished,
         };
     }
     Ran {
-        lines: count(n),
+        lines: lines_in(at),
         end: End::Full,
     }
 }

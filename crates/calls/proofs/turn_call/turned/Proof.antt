@@ -4,7 +4,7 @@ use Rattle.calls.proofs.turn_call.turned.Statement.{statement}
 use Rattle.calls.proofs.turn_call.turned.Tie as tie
 
 turn-requires : tie.Need-turn-requires
-turn-requires c κs = (c .before .before .before .before .before .before .before .before .before .before .before .before .before .before .pre .0, (c .before .before .before .before .before .before .before .before .before .before .before .before .before .before .pre .1 .1, omega (arith, c .before .before .before .before .before .before .before .before .before .before .before .before .before .before .pre .1 .0)))
+turn-requires c κs = (c .before .before .before .before .before .before .before .before .before .before .before .before .before .before .pre .0, (c .before .before .before .before .before .before .before .before .before .before .before .before .before .before .pre .1 .1, (omega arith, omega (arith, c .before .before .before .before .before .before .before .before .before .before .before .before .before .before .pre .1 .0))))
 
 enum-told : tie.Need-enum-told
 enum-told c = search needs

@@ -1,12 +1,14 @@
-use Prim.Native.Nat.{_-_}
+use Prim.Native.Nat.{_-_, _/_}
 use mathlib.Core.Path.{refl, ap, _∙_}
 use lib.ListN.{length}
+use Rattle.machine.specs.Run.{lineSize}
 use Rattle.run_laws.specs.declared.Effect.the-variants.{Stays, Moves}
 use Rattle.run_laws.specs.Run.{lent, turnsOn}
 use Rattle.run_laws.specs.Tried.{isApart}
 use Rattle.run_laws.specs.Standing.{its-judged, in-positions, in-times}
 use Rattle.run_laws.specs.StepIs.{stayed, to-next, jumps-to}
-use Rattle.run_laws.specs.Stretching.{Stretching, stretching-start, its-call, in-table, lengths, its-number, most-bytes, its-line, stopped, stays, stands-on, next-kept, moves}
+use Rattle.run_laws.specs.Counting.{few-bytes, line-in}
+use Rattle.run_laws.specs.Stretching.{Stretching, stretching-start, its-call, in-table, lengths, its-number, stopped, stays, stands-on, next-kept, moves}
 use Rattle.run_laws.specs.StretchEnds.{fills, waits}
 use borrow.Author.Needs.{needs}
 use native.Mathlib.Omega.{arith}
@@ -14,16 +16,19 @@ use Rattle.run_turn.proofs.stretch.stretch.Statement.{statement}
 use Rattle.run_turn.proofs.stretch.stretch.Tie as tie
 
 abbrev Inv-loop : tie.InvT-loop
-Inv-loop c sheet links₀ axis₀ times₀ marks positions₀ accums₀ trace₀ lines room end at₀ f₀ time₀ r₀ links axis times positions accums trace at f time r =
-    Stretching c sheet room lines (turnsOn c sheet lines (room - lines) (lent links₀ axis₀ times₀ marks positions₀ accums₀) trace₀) (lent links₀ axis₀ times₀ marks positions₀ accums₀) trace₀ end at f time r (lent links axis times marks positions accums) trace
+Inv-loop c sheet links₀ axis₀ times₀ marks positions₀ accums₀ trace₀ from end stop at₀ f₀ time₀ r₀ links axis times positions accums trace at f time r =
+    Stretching c sheet end stop (from / lineSize) (turnsOn c sheet (from / lineSize) (end / lineSize - from / lineSize) (lent links₀ axis₀ times₀ marks positions₀ accums₀) trace₀) (lent links₀ axis₀ times₀ marks positions₀ accums₀) trace₀ at f time r (lent links axis times marks positions accums) trace
 
 abbrev μ-loop : tie.MeasureT-loop
-μ-loop c sheet links₀ axis₀ times₀ marks positions₀ accums₀ trace₀ lines room end at₀ f₀ time₀ r₀ links axis times positions accums trace at f time r =
-    end - at
+μ-loop c sheet links₀ axis₀ times₀ marks positions₀ accums₀ trace₀ from end stop at₀ f₀ time₀ r₀ links axis times positions accums trace at f time r =
+    stop - at
 
 -- The places that the answers look back to: `search` finds each by its type.
 abbrev start : tie.Start Inv-loop μ-loop → tie.Start Inv-loop μ-loop
 start x = x
+
+abbrev after-past-last : tie.After-past-last Inv-loop μ-loop → tie.After-past-last Inv-loop μ-loop
+after-past-last x = x
 
 abbrev after-place-now : tie.After-place-now Inv-loop μ-loop → tie.After-place-now Inv-loop μ-loop
 after-place-now x = x
@@ -73,11 +78,8 @@ loop-from-perform x = x .before .before .before .before .before .before
 abbrev in-loop-from-perform : tie.After-perform Inv-loop μ-loop → tie.In-loop Inv-loop μ-loop
 in-loop-from-perform x = x .before .before .before .before .before
 
-mul-end : tie.Need-mul-end Inv-loop μ-loop
-mul-end c = omega (arith, start (search) .pre .1 .0, start (search) .pre .1 .1 .1)
-
-mul-at : tie.Need-mul-at Inv-loop μ-loop
-mul-at c = omega (arith, start (search) .pre .1 .0, start (search) .pre .1 .1 .0, start (search) .pre .1 .1 .1)
+past-last-requires : tie.Need-past-last-requires Inv-loop μ-loop
+past-last-requires c κs = search needs
 
 place-now-requires : tie.Need-place-now-requires Inv-loop μ-loop
 place-now-requires c κs = its-judged _ _ _ (start (search) .pre .0)
@@ -89,7 +91,7 @@ record-of-requires : tie.Need-record-of-requires Inv-loop μ-loop
 record-of-requires c κs = in-positions _ _ _ (start (search) .pre .0) _ (after-place-now (search) .place-now .ensures)
 
 loop-holds : tie.Need-loop-holds Inv-loop μ-loop
-loop-holds c = stretching-start _ _ _ _ _ _ _ _ _ (start (search) .pre .0) (start (search) .pre .1 .0) (start (search) .pre .1 .1 .0) (start (search) .pre .1 .1 .1) (after-place-now (search) .place-now .ensures) (c .before .before .time-of .ensures) (c .record-of .ensures)
+loop-holds c = stretching-start _ _ _ _ _ _ _ _ _ _ (start (search) .pre .0) (start (search) .pre .1 .0) (start (search) .pre .1 .1 .0) (start (search) .pre .1 .1 .1 .0) (start (search) .pre .1 .1 .1 .1) (after-past-last (search) .past-last .ensures) (after-place-now (search) .place-now .ensures) (c .before .before .time-of .ensures) (c .record-of .ensures)
 
 perform-requires : tie.Need-perform-requires Inv-loop μ-loop
 perform-requires c κs = its-call _ _ _ _ _ _ _ _ _ _ _ _ _ _ (at-loop (search) .loop .inv)
@@ -98,13 +100,13 @@ enum-told : tie.Need-enum-told Inv-loop μ-loop
 enum-told c = search needs
 
 write-requires : tie.Need-write-requires Inv-loop μ-loop
-write-requires c κs = (its-number _ _ _ _ _ _ _ _ _ _ _ _ _ _ (at-loop (search) .loop .inv), its-line _ _ _ _ _ _ _ _ _ _ _ _ _ _ (at-loop (search) .loop .inv) (in-loop (search) .loop-test .taken))
+write-requires c κs = (its-number _ _ _ _ _ _ _ _ _ _ _ _ _ _ (at-loop (search) .loop .inv), line-in _ _ _ _ _ _ _ _ _ _ (at-loop (search) .loop .inv .counting) (in-loop (search) .loop-test .taken))
 
 next-of-requires : tie.Need-next-of-requires Inv-loop μ-loop
 next-of-requires c κs = λ z. its-call _ _ _ _ _ _ _ _ _ _ _ _ _ _ (at-loop (search) .loop .inv) z .callable .inside
 
 add-at : tie.Need-add-at Inv-loop μ-loop
-add-at c = omega (arith, most-bytes _ _ _ _ _ _ _ _ _ _ _ _ _ _ (at-loop (search) .loop .inv))
+add-at c = omega (arith, few-bytes _ _ _ _ _ _ _ _ _ _ (at-loop (search) .loop .inv .counting))
 
 loop-less : tie.Need-loop-less Inv-loop μ-loop
 loop-less c = omega (arith, in-loop (search) .loop-test .taken)
@@ -116,10 +118,10 @@ enum-known-y : tie.Need-enum-known-y Inv-loop μ-loop
 enum-known-y c = search needs
 
 write-requires-2 : tie.Need-write-requires-2 Inv-loop μ-loop
-write-requires-2 c κs = (its-number _ _ _ _ _ _ _ _ _ _ _ _ _ _ (at-loop (search) .loop .inv), its-line _ _ _ _ _ _ _ _ _ _ _ _ _ _ (at-loop (search) .loop .inv) (in-loop (search) .loop-test .taken))
+write-requires-2 c κs = (its-number _ _ _ _ _ _ _ _ _ _ _ _ _ _ (at-loop (search) .loop .inv), line-in _ _ _ _ _ _ _ _ _ _ (at-loop (search) .loop .inv .counting) (in-loop (search) .loop-test .taken))
 
 add-at-2 : tie.Need-add-at-2 Inv-loop μ-loop
-add-at-2 c = omega (arith, most-bytes _ _ _ _ _ _ _ _ _ _ _ _ _ _ (at-loop (search) .loop .inv))
+add-at-2 c = omega (arith, few-bytes _ _ _ _ _ _ _ _ _ _ (at-loop (search) .loop .inv .counting))
 
 loop-less-2 : tie.Need-loop-less-2 Inv-loop μ-loop
 loop-less-2 c = omega (arith, in-loop (search) .loop-test .taken)
@@ -134,7 +136,7 @@ next-of-requires-2 : tie.Need-next-of-requires-2 Inv-loop μ-loop
 next-of-requires-2 c κs = λ z. its-call _ _ _ _ _ _ _ _ _ _ _ _ _ _ (at-loop (search) .loop .inv) z .callable .inside
 
 move-on-requires : tie.Need-move-on-requires Inv-loop μ-loop
-move-on-requires c κs = (in-table _ _ _ _ _ _ _ _ _ _ _ _ _ _ (at-loop (search) .loop .inv), (its-number _ _ _ _ _ _ _ _ _ _ _ _ _ _ (at-loop (search) .loop .inv), its-line _ _ _ _ _ _ _ _ _ _ _ _ _ _ (at-loop (search) .loop .inv) (in-loop (search) .loop-test .taken)))
+move-on-requires c κs = (in-table _ _ _ _ _ _ _ _ _ _ _ _ _ _ (at-loop (search) .loop .inv), (its-number _ _ _ _ _ _ _ _ _ _ _ _ _ _ (at-loop (search) .loop .inv), line-in _ _ _ _ _ _ _ _ _ _ (at-loop (search) .loop .inv .counting) (in-loop (search) .loop-test .taken)))
 
 place-now-requires-2 : tie.Need-place-now-requires-2 Inv-loop μ-loop
 place-now-requires-2 c κs = its-judged _ _ _ (stands-on _ _ _ _ _ _ _ _ _ _ _ _ _ _ (at-loop (search) .loop .inv) (in-loop (search) .loop-test .taken) _ (after-perform (search) .perform .ensures) (ap isApart (after-enum-told2 (search) .enum-told2 .given .1)) _ (to-next _ _ _ Moves refl (after-enum-told2 (search) .enum-told2 .given .1) (after-next-of2 (search) .next-of2 .ensures)) _ (after-move-on (search) .move-on .kept .1 .1 .0) _ (after-move-on (search) .move-on .ensures))
@@ -146,7 +148,7 @@ time-of-requires-2 : tie.Need-time-of-requires-2 Inv-loop μ-loop
 time-of-requires-2 c κs = in-times _ _ _ (stands-on _ _ _ _ _ _ _ _ _ _ _ _ _ _ (loop-from-perform (search) .loop .inv) (in-loop-from-perform (search) .loop-test .taken) _ (after-perform (search) .perform .ensures) (ap isApart (after-enum-told2 (search) .enum-told2 .given .1)) _ (to-next _ _ _ Moves refl (after-enum-told2 (search) .enum-told2 .given .1) (after-next-of2 (search) .next-of2 .ensures)) _ (after-move-on (search) .move-on .kept .1 .1 .0) _ (after-move-on (search) .move-on .ensures)) _ (after-place-now2 (search) .place-now2 .ensures)
 
 add-at-3 : tie.Need-add-at-3 Inv-loop μ-loop
-add-at-3 c = omega (arith, most-bytes _ _ _ _ _ _ _ _ _ _ _ _ _ _ (loop-from-perform (search) .loop .inv))
+add-at-3 c = omega (arith, few-bytes _ _ _ _ _ _ _ _ _ _ (loop-from-perform (search) .loop .inv .counting))
 
 loop-less-3 : tie.Need-loop-less-3 Inv-loop μ-loop
 loop-less-3 c = omega (arith, in-loop-from-perform (search) .loop-test .taken)
@@ -176,10 +178,10 @@ same-length-5 : tie.Need-same-length-5 Inv-loop μ-loop
 same-length-5 c = (after-perform (search) .perform .kept .1 .1 .1 .1 .1 .1 .1 .1 .1 .0) ∙ lengths _ _ _ _ _ _ _ _ _ _ _ _ _ _ (at-loop (search) .loop .inv) .words-same
 
 same-length-6 : tie.Need-same-length-6 Inv-loop μ-loop
-same-length-6 c = at-loop (search) .loop .inv .turning .size
+same-length-6 c = at-loop (search) .loop .inv .counting .turning .size
 
 returns : tie.Need-returns Inv-loop μ-loop
-returns c = waits _ _ _ _ _ _ _ _ _ _ _ _ _ _ (at-loop (search) .loop .inv) _ refl (in-loop (search) .loop-test .taken) _ (after-perform (search) .perform .ensures) (ap isApart (after-enum-told3 (search) .enum-told3 .given .1)) _ (c .before .before .place .ensures)
+returns c = waits _ _ _ _ _ _ _ _ _ _ _ _ _ _ (at-loop (search) .loop .inv) (in-loop (search) .loop-test .taken) _ (after-perform (search) .perform .ensures) (ap isApart (after-enum-told3 (search) .enum-told3 .given .1)) _ (c .before .before .place .ensures)
 
 enum-known-q : tie.Need-enum-known-q Inv-loop μ-loop
 enum-known-q c = search needs
@@ -203,10 +205,10 @@ same-length-11 : tie.Need-same-length-11 Inv-loop μ-loop
 same-length-11 c = (after-perform (search) .perform .kept .1 .1 .1 .1 .1 .1 .1 .1 .1 .0) ∙ lengths _ _ _ _ _ _ _ _ _ _ _ _ _ _ (at-loop (search) .loop .inv) .words-same
 
 same-length-12 : tie.Need-same-length-12 Inv-loop μ-loop
-same-length-12 c = at-loop (search) .loop .inv .turning .size
+same-length-12 c = at-loop (search) .loop .inv .counting .turning .size
 
 returns-2 : tie.Need-returns-2 Inv-loop μ-loop
-returns-2 c = stopped _ _ _ _ _ _ _ _ _ _ _ _ _ _ (at-loop (search) .loop .inv) (in-loop (search) .loop-test .taken) _ (after-perform (search) .perform .ensures) (ap isApart (after-q (search) .q .given .1)) _ (after-q (search) .q .given .1) _ refl _ (c .before .before .place2 .ensures)
+returns-2 c = stopped _ _ _ _ _ _ _ _ _ _ _ _ _ _ (at-loop (search) .loop .inv) (in-loop (search) .loop-test .taken) _ (after-perform (search) .perform .ensures) (ap isApart (after-q (search) .q .given .1)) _ (after-q (search) .q .given .1) _ (c .before .before .place2 .ensures)
 
 place-requires-3 : tie.Need-place-requires-3 Inv-loop μ-loop
 place-requires-3 c κs = in-table _ _ _ _ _ _ _ _ _ _ _ _ _ _ (c .before .before .loop .inv)
@@ -227,10 +229,10 @@ same-length-17 : tie.Need-same-length-17 Inv-loop μ-loop
 same-length-17 c = lengths _ _ _ _ _ _ _ _ _ _ _ _ _ _ (at-loop (search) .loop .inv) .words-same
 
 same-length-18 : tie.Need-same-length-18 Inv-loop μ-loop
-same-length-18 c = at-loop (search) .loop .inv .turning .size
+same-length-18 c = at-loop (search) .loop .inv .counting .turning .size
 
 returns-3 : tie.Need-returns-3 Inv-loop μ-loop
-returns-3 c = fills _ _ _ _ _ _ _ _ _ _ _ _ _ _ (at-loop (search) .loop .inv) _ refl (after-loop (search) .loop-test .left) _ (c .before .before .place3 .ensures)
+returns-3 c = fills _ _ _ _ _ _ _ _ _ _ _ _ _ _ (at-loop (search) .loop .inv) (after-loop (search) .loop-test .left) _ (c .before .before .place3 .ensures)
 
 pub stretch-spec : {M : Type 1} → statement M
 stretch-spec =
@@ -238,8 +240,7 @@ stretch-spec =
     (tie.spec
     Inv-loop
     μ-loop
-    mul-end
-    mul-at
+    past-last-requires
     place-now-requires
     time-of-requires
     record-of-requires

@@ -28,10 +28,10 @@ abbrev stretch-from-accums : tie.After-accums → tie.After-stretch
 stretch-from-accums x = x .before .before .before .before .before .before .before .before .before
 
 add-stretch : tie.Need-add-stretch
-add-stretch c = omega (arith, start (search) .pre .1 .0, start (search) .pre .1 .1)
+add-stretch c = omega (arith, start (search) .pre .1 .0, start (search) .pre .1 .1 .1)
 
 stretch-requires : tie.Need-stretch-requires
-stretch-requires c κs = (start (search) .pre .0, (start (search) .pre .1 .0, (omega arith, omega (arith, start (search) .pre .1 .1))))
+stretch-requires c κs = (start (search) .pre .0, (start (search) .pre .1 .0, (start (search) .pre .1 .1 .0, (omega arith, start (search) .pre .1 .1 .1))))
 
 enum-told : tie.Need-enum-told
 enum-told c = search needs
@@ -42,11 +42,8 @@ enum-known-pause c = search needs
 enum-told-2 : tie.Need-enum-told-2
 enum-told-2 c = search needs
 
-mul-i : tie.Need-mul-i
-mul-i c = omega (arith, start-from-accums (search) .pre .1 .0, start-from-accums (search) .pre .1 .1)
-
 turn-apart-requires : tie.Need-turn-apart-requires
-turn-apart-requires c κs = ((after-stretch (search) .stretch .ensures) .stands (ap (λ (q : Pause). isFull q || isDue q) (after-enum-told2 (search) .enum-told2 .given .1)), (omega (arith, (after-stretch (search) .stretch .ensures) .size, start-from-accums (search) .pre .1 .1), (after-stretch (search) .stretch .ensures) .due (ap isDue (after-enum-told2 (search) .enum-told2 .given .1)) .1))
+turn-apart-requires c κs = ((after-stretch (search) .stretch .ensures) .stands (ap (λ (q : Pause). isFull q || isDue q) (after-enum-told2 (search) .enum-told2 .given .1)), (omega (arith, (after-stretch (search) .stretch .ensures) .size, start-from-accums (search) .pre .1 .1 .1), (after-stretch (search) .stretch .ensures) .due (ap isDue (after-enum-told2 (search) .enum-told2 .given .1)) .1))
 
 same-length : tie.Need-same-length
 same-length c = search needs
@@ -70,7 +67,7 @@ same-length-7 : tie.Need-same-length-7
 same-length-7 c = search needs
 
 returns : tie.Need-returns
-returns c = any-made _ _ _ _ _ _ _ _ (after-stretch (search) .stretch .ensures) (c .enum-told .given .1)
+returns c = any-made _ _ _ _ (start (search) .pre .1 .1 .0) _ _ _ _ _ (after-stretch (search) .stretch .ensures) (c .enum-told .given .1)
 
 same-length-8 : tie.Need-same-length-8
 same-length-8 c = search needs
@@ -94,7 +91,7 @@ same-length-14 : tie.Need-same-length-14
 same-length-14 c = search needs
 
 returns-2 : tie.Need-returns-2
-returns-2 c = any-refused _ _ _ _ _ _ _ _ (after-stretch (search) .stretch .ensures) _ (c .before .pause .given .1)
+returns-2 c = any-refused _ _ _ _ (start (search) .pre .1 .1 .0) _ _ _ _ _ (after-stretch (search) .stretch .ensures) _ (c .before .pause .given .1)
 
 same-length-15 : tie.Need-same-length-15
 same-length-15 c = search needs
@@ -118,7 +115,7 @@ same-length-21 : tie.Need-same-length-21
 same-length-21 c = search needs
 
 returns-3 : tie.Need-returns-3
-returns-3 c = any-due _ _ _ _ _ _ _ _ (stretch-from-accums (search) .stretch .ensures) (after-enum-told2 (search) .enum-told2 .given .1) _ (after-turn-apart (search) .turn-apart .ensures)
+returns-3 c = any-due _ _ _ _ (start-from-accums (search) .pre .1 .1 .0) _ _ _ _ _ (stretch-from-accums (search) .stretch .ensures) (after-enum-told2 (search) .enum-told2 .given .1) _ (after-turn-apart (search) .turn-apart .ensures)
 
 pub turn-spec : {M : Type 1} → statement M
 turn-spec =
@@ -129,7 +126,6 @@ turn-spec =
     enum-told
     enum-known-pause
     enum-told-2
-    mul-i
     turn-apart-requires
     same-length
     same-length-2
