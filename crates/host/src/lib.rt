@@ -45,8 +45,8 @@ pub extern "C" fn nodbrize_run(sheet: &[u8], trace: &mut [u8]) -> u64
             let ran = start(
                 header,
                 sheet,
-                &mut links[..2 * n],
-                &mut axis[..2 * (p + 1)],
+                &mut links[..n + n],
+                &mut axis[..p + p + 2],
                 &mut times[..p],
                 &mut marks[..p],
                 &mut positions[..p],

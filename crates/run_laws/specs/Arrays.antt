@@ -44,20 +44,20 @@ module _ (bytes : List ℕ) (h : Header) (ok : checked bytes ≡ Accepted h) (N 
   its : Allowed (h .counts)
   its = header-allowed bytes h ok
 
-  pub links-in : 2 * (N + 1) ≤ 8194
+  pub links-in : N + 1 + (N + 1) ≤ 8194
   links-in = omega (arith, its .heads-in, its .processes-in, its .plains-in)
 
-  pub axis-in : 2 * (P + 1 + 1) ≤ 2052
+  pub axis-in : P + 1 + (P + 1) + 2 ≤ 2052
   axis-in = omega (arith, its .processes-in)
 
   pub one-in : P + 1 ≤ 1025
   one-in = omega (arith, its .processes-in)
 
-  pub links-part : 2 * (N + 1) ≡ length {A = ℕ} (take (2 * (N + 1)) (replicate 8194 0))
-  links-part = sym (part-length (2 * (N + 1)) 8194 0 links-in)
+  pub links-part : N + 1 + (N + 1) ≡ length {A = ℕ} (take (N + 1 + (N + 1)) (replicate 8194 0))
+  links-part = sym (part-length (N + 1 + (N + 1)) 8194 0 links-in)
 
-  pub axis-part : 2 * (P + 1 + 1) ≡ length {A = ℕ} (take (2 * (P + 1 + 1)) (replicate 2052 0))
-  axis-part = sym (part-length (2 * (P + 1 + 1)) 2052 0 axis-in)
+  pub axis-part : P + 1 + (P + 1) + 2 ≡ length {A = ℕ} (take (P + 1 + (P + 1) + 2) (replicate 2052 0))
+  axis-part = sym (part-length (P + 1 + (P + 1) + 2) 2052 0 axis-in)
 
   pub one-part : P + 1 ≡ length {A = ℕ} (take (P + 1) (replicate 1025 0))
   one-part = sym (part-length (P + 1) 1025 0 one-in)
@@ -70,8 +70,8 @@ module _ (bytes : List ℕ) (h : Header) (ok : checked bytes ≡ Accepted h) (N 
       (record {
         model =
             record {
-              links = take (2 * (N + 1)) (replicate 8194 0);
-              axis = take (2 * (P + 1 + 1)) (replicate 2052 0);
+              links = take (N + 1 + (N + 1)) (replicate 8194 0);
+              axis = take (P + 1 + (P + 1) + 2) (replicate 2052 0);
               times = take (P + 1) (replicate 1025 0);
               marks = take (P + 1) (replicate 1025 0);
             };
@@ -81,6 +81,6 @@ module _ (bytes : List ℕ) (h : Header) (ok : checked bytes ≡ Accepted h) (N 
       tr
   lent-startable tr short =
       startable h bytes _ tr ok short
-      (sym links-part ∙ ap (λ (k : ℕ). 2 * (k + 1)) eN)
-      (sym axis-part ∙ omega arith)
+      (sym links-part ∙ omega (arith, eN))
+      (sym axis-part ∙ omega (arith, eP))
       one-length one-length one-length (length-replicate runWords (pos 0))

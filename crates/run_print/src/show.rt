@@ -28,9 +28,7 @@ ghost use Rattle.run_laws.specs.Starting.{Startable};
 ghost use Rattle.run_print.specs.Pieces.{Located};
 ghost use Rattle.machine.specs.Run.{traceLimit};
 
-// Lines of a whole piece, and pieces: 244 whole ones and one of 576 lines are 1,000,000.
-pub const LINES: usize = 4096;
-
+// Whole pieces: 244 of 4,096 lines, and one of 576 lines, are 1,000,000.
 pub const WHOLE: usize = 244;
 
 // Trace bytes for piece i.
@@ -93,6 +91,7 @@ fn pieces(
 {
     let mut out = [0u8; 4096];
     let mut at = 0;
+    let mut steps = 0;
     let mut i = 0;
     while i <= WHOLE {
         let ran = piece(
@@ -108,7 +107,7 @@ fn pieces(
         );
         let n = ran.lines;
         at = put_lines(&mut out, at, trace, n);
-        let steps = (i * LINES) as u64 + n as u64;
+        steps += n as u64;
         let end = ran.end;
         match end {
             End::Finished => {
@@ -124,7 +123,7 @@ fn pieces(
             }
         }
     }
-    done(&mut out, at, b"stopped ", 1000000);
+    done(&mut out, at, b"stopped ", steps);
 }
 
 // A fresh run over local tables, cut to the sheet's lengths.
@@ -144,8 +143,8 @@ pub(crate) fn show(header: Header, sheet: &[u8])
     on_tables(
         header,
         sheet,
-        &mut links[..2 * n],
-        &mut axis[..2 * (p + 1)],
+        &mut links[..n + n],
+        &mut axis[..p + p + 2],
         &mut times[..p],
         &mut marks[..p],
         &mut positions[..p],

@@ -61,8 +61,8 @@ wide-requires c κs = search needs
 add-p : tie.Need-add-p
 add-p c = search needs
 
-mul-links : tie.Need-mul-links
-mul-links c = search needs
+add-links : tie.Need-add-links
+add-links c = search needs
 
 array-borrow-prefix-links : tie.Need-array-borrow-prefix-links
 array-borrow-prefix-links c = links-in (start (search) .args .sheet .now) _ (sym (after-check (search) .check .ensures) ∙ after-read2 (search) .read2 .given .1) _ (c .before .total .ensures) _ (c .wide .ensures)
@@ -73,8 +73,8 @@ slice-aggregate-start c = links-part (start (search) .args .sheet .now) _ (sym (
 add-axis : tie.Need-add-axis
 add-axis c = search needs
 
-mul-axis : tie.Need-mul-axis
-mul-axis c = search needs
+add-axis-2 : tie.Need-add-axis-2
+add-axis-2 c = search needs
 
 array-borrow-prefix-axis : tie.Need-array-borrow-prefix-axis
 array-borrow-prefix-axis c = axis-in (start (search) .args .sheet .now) _ (sym (after-check (search) .check .ensures) ∙ after-read2 (search) .read2 .given .1) _ (c .before .before .total .ensures) _ (c .before .wide .ensures)
@@ -132,11 +132,11 @@ nodbrize-run-spec =
     add-n
     wide-requires
     add-p
-    mul-links
+    add-links
     array-borrow-prefix-links
     slice-aggregate-start
     add-axis
-    mul-axis
+    add-axis-2
     array-borrow-prefix-axis
     slice-aggregate-start-2
     array-borrow-prefix-times

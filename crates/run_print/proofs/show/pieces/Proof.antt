@@ -10,10 +10,10 @@ use Rattle.run_print.proofs.show.pieces.Statement.{statement}
 use Rattle.run_print.proofs.show.pieces.Tie as tie
 
 abbrev Inv-loop : tie.InvT-loop
-Inv-loop c sheet links₀ axis₀ times₀ marks₀ positions₀ accums₀ trace₀ out₀ at₀ i₀ t18 t19 links axis times marks positions accums trace out at i = (at ≤ 4096) × (i ≤ 245) × (length links ≡ length links₀) × (length axis ≡ length axis₀) × (length times ≡ length times₀) × (length marks ≡ length marks₀) × (length positions ≡ length positions₀) × (length accums ≡ length accums₀) × (length trace ≡ length trace₀) × Standing c sheet (lent links axis times marks positions accums)
+Inv-loop c sheet links₀ axis₀ times₀ marks₀ positions₀ accums₀ trace₀ out₀ at₀ steps₀ i₀ t18 t19 links axis times marks positions accums trace out at steps i = (at ≤ 4096) × (i ≤ 245) × (length links ≡ length links₀) × (length axis ≡ length axis₀) × (length times ≡ length times₀) × (length marks ≡ length marks₀) × (length positions ≡ length positions₀) × (length accums ≡ length accums₀) × (length trace ≡ length trace₀) × Standing c sheet (lent links axis times marks positions accums) × (steps ≤ 4294967295 * i)
 
 abbrev μ-loop : tie.MeasureT-loop
-μ-loop c sheet links₀ axis₀ times₀ marks₀ positions₀ accums₀ trace₀ out₀ at₀ i₀ t18 t19 links axis times marks positions accums trace out at i = 245 - i
+μ-loop c sheet links₀ axis₀ times₀ marks₀ positions₀ accums₀ trace₀ out₀ at₀ steps₀ i₀ t18 t19 links axis times marks positions accums trace out at steps i = 245 - i
 
 -- The places that the answers look back to: `search` finds each by its type.
 abbrev start : tie.Start Inv-loop μ-loop → tie.Start Inv-loop μ-loop
@@ -38,7 +38,7 @@ abbrev in-loop-from-piece : tie.After-piece Inv-loop μ-loop → tie.In-loop Inv
 in-loop-from-piece x = x .before .before .before .before .before .before .before .before .before
 
 loop-holds : tie.Need-loop-holds Inv-loop μ-loop
-loop-holds c = (omega arith, omega arith, refl, refl, refl, refl, refl, refl, refl, start (search) .pre .0)
+loop-holds c = (omega arith, omega arith, refl, refl, refl, refl, refl, refl, refl, start (search) .pre .0, omega arith)
 
 room-requires : tie.Need-room-requires Inv-loop μ-loop
 room-requires c κs = search needs
@@ -49,14 +49,11 @@ piece-requires c κs = omega (arith, c .room .ensures, at-loop (search) .loop .i
 put-lines-requires : tie.Need-put-lines-requires Inv-loop μ-loop
 put-lines-requires c κs = (loop-from-piece (search) .loop .inv .0, subst (λ (n : ℕ). 16 * after-piece (search) .piece .result .lines ≤ n) (sym (after-piece (search) .piece .kept .1 .1 .1 .1 .1 .1 .1 .0)) (left-room (start-from-piece (search) .args .sheet .now) _ _ _ _ _ (after-piece (search) .piece .ensures) (omega (arith, after-room (search) .room .ensures, loop-from-piece (search) .loop .inv .8, start-from-piece (search) .pre .1))))
 
-mul-steps : tie.Need-mul-steps Inv-loop μ-loop
-mul-steps c = search needs
-
 cast-steps : tie.Need-cast-steps Inv-loop μ-loop
 cast-steps c = search needs
 
 add-steps : tie.Need-add-steps Inv-loop μ-loop
-add-steps c = search needs
+add-steps c = omega (arith, loop-from-piece (search) .loop .inv .10, loop-from-piece (search) .loop .inv .1)
 
 enum-told : tie.Need-enum-told Inv-loop μ-loop
 enum-told c = search needs
@@ -134,7 +131,7 @@ loop-less : tie.Need-loop-less Inv-loop μ-loop
 loop-less c = search needs
 
 loop-again : tie.Need-loop-again Inv-loop μ-loop
-loop-again c = ((c .before .before .put-lines .ensures), omega (arith, (loop-from-piece (search) .loop .inv .1), (in-loop-from-piece (search) .loop-test .taken)), (after-piece (search) .piece .kept .1 .0) ∙ (loop-from-piece (search) .loop .inv .2), (after-piece (search) .piece .kept .1 .1 .0) ∙ (loop-from-piece (search) .loop .inv .3), (after-piece (search) .piece .kept .1 .1 .1 .0) ∙ (loop-from-piece (search) .loop .inv .4), (after-piece (search) .piece .kept .1 .1 .1 .1 .0) ∙ (loop-from-piece (search) .loop .inv .5), (after-piece (search) .piece .kept .1 .1 .1 .1 .1 .0) ∙ (loop-from-piece (search) .loop .inv .6), (after-piece (search) .piece .kept .1 .1 .1 .1 .1 .1 .0) ∙ (loop-from-piece (search) .loop .inv .7), (after-piece (search) .piece .kept .1 .1 .1 .1 .1 .1 .1 .0) ∙ (loop-from-piece (search) .loop .inv .8), left-stands (start-from-piece (search) .args .sheet .now) _ _ _ _ _ (after-piece (search) .piece .ensures) (start-from-piece (search) .args .c) (loop-from-piece (search) .loop .inv .9))
+loop-again c = ((c .before .before .put-lines .ensures), omega (arith, (loop-from-piece (search) .loop .inv .1), (in-loop-from-piece (search) .loop-test .taken)), (after-piece (search) .piece .kept .1 .0) ∙ (loop-from-piece (search) .loop .inv .2), (after-piece (search) .piece .kept .1 .1 .0) ∙ (loop-from-piece (search) .loop .inv .3), (after-piece (search) .piece .kept .1 .1 .1 .0) ∙ (loop-from-piece (search) .loop .inv .4), (after-piece (search) .piece .kept .1 .1 .1 .1 .0) ∙ (loop-from-piece (search) .loop .inv .5), (after-piece (search) .piece .kept .1 .1 .1 .1 .1 .0) ∙ (loop-from-piece (search) .loop .inv .6), (after-piece (search) .piece .kept .1 .1 .1 .1 .1 .1 .0) ∙ (loop-from-piece (search) .loop .inv .7), (after-piece (search) .piece .kept .1 .1 .1 .1 .1 .1 .1 .0) ∙ (loop-from-piece (search) .loop .inv .8), left-stands (start-from-piece (search) .args .sheet .now) _ _ _ _ _ (after-piece (search) .piece .ensures) (start-from-piece (search) .args .c) (loop-from-piece (search) .loop .inv .9), omega (arith, loop-from-piece (search) .loop .inv .10))
 
 slice-aggregate-done-2 : tie.Need-slice-aggregate-done-2 Inv-loop μ-loop
 slice-aggregate-done-2 c = search needs
@@ -176,7 +173,6 @@ pieces-spec =
     room-requires
     piece-requires
     put-lines-requires
-    mul-steps
     cast-steps
     add-steps
     enum-told

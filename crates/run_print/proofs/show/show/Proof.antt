@@ -18,8 +18,8 @@ wide-requires c κs = search needs
 add-p : tie.Need-add-p
 add-p c = search needs
 
-mul-links : tie.Need-mul-links
-mul-links c = search needs
+add-links : tie.Need-add-links
+add-links c = search needs
 
 -- The places that the answers look back to: `search` finds each by its type.
 abbrev start : tie.Start → tie.Start
@@ -40,8 +40,8 @@ slice-aggregate-on-tables c = links-part (start (search) .args .sheet .now) _ (s
 add-axis : tie.Need-add-axis
 add-axis c = search needs
 
-mul-axis : tie.Need-mul-axis
-mul-axis c = search needs
+add-axis-2 : tie.Need-add-axis-2
+add-axis-2 c = search needs
 
 array-borrow-prefix-axis : tie.Need-array-borrow-prefix-axis
 array-borrow-prefix-axis c = axis-in (start (search) .args .sheet .now) _ (start (search) .pre) _ (c .before .before .total .ensures) _ (c .before .wide .ensures)
@@ -87,11 +87,11 @@ show-spec =
     add-n
     wide-requires
     add-p
-    mul-links
+    add-links
     array-borrow-prefix-links
     slice-aggregate-on-tables
     add-axis
-    mul-axis
+    add-axis-2
     array-borrow-prefix-axis
     slice-aggregate-on-tables-2
     array-borrow-prefix-times
