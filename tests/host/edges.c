@@ -182,8 +182,10 @@ static void longest(void)
     for (uint32_t i = 0; i < count; i++) lines[i] = (struct line){i, 1, i % 2000 + 1};
     size_t length = pack(sheet, 1024, 1, records, 2000);
     check(length == NODBRIZE_SHEET_MAX, "the longest sheet's length");
-    call("the longest sheet and trace", sheet, length, NODBRIZE_TRACE_MAX, 0, lines, count, NODBRIZE_FULL);
-    call("the longest trace without its last byte", sheet, length, NODBRIZE_TRACE_MAX - 1, 0, lines, count - 1, NODBRIZE_FULL);
+    for (size_t n = 0; n <= 48; n++)
+        call("the longest sheet, a trace of 0 to 48 bytes", sheet, length, n, 0, lines, n / NODBRIZE_LINE_BYTES, NODBRIZE_FULL);
+    for (size_t n = NODBRIZE_TRACE_MAX - 48; n <= NODBRIZE_TRACE_MAX; n++)
+        call("the longest sheet, a trace of 65,488 to 65,536 bytes", sheet, length, n, 0, lines, n / NODBRIZE_LINE_BYTES, NODBRIZE_FULL);
     call("a sheet one byte too long", sheet, length + 1, 64, 0, NULL, 0, NODBRIZE_SHEET_REFUSED);
 }
 

@@ -82,6 +82,8 @@ mutations! {
     FirstReadLate: "the first member of a head is read after x is out",
     AccumsAtEntry: "a run's accumulators are judged at its entry",
     TraceLimitExcluded: "a trace of 65,536 bytes is refused",
+    LastByteSpared: "a line that would fill the trace to its last byte does not fit",
+    PartLineCounted: "the bytes behind the last line that fits count as a line",
     StoppedFirst: "printing looks at stopped before finished",
 }
 

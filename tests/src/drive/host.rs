@@ -4,7 +4,7 @@
 use super::child::Program;
 use super::report::sheet_text;
 use super::tally::Tally;
-use crate::gen::{runs, sheet_damage, sheets, special};
+use crate::gen::{buffers, runs, sheet_damage, sheets, special};
 use crate::rng::Rng;
 use crate::sim::run::Run;
 use crate::sim::sheet;
@@ -18,10 +18,15 @@ struct Input {
     trace: Vec<u8>,
 }
 
-/// Compares the answers to so many inputs.
+/// Compares the answers to the sweep of buffers, then to so many inputs.
 pub fn drive(program: &Program, count: u64, seed: u64) -> bool {
     let mut tally = Tally::new("host", 5_000);
     let mut rng = Rng::new(seed);
+    let sweep: Vec<Input> = buffers::all()
+        .iter()
+        .map(|(sheet, length)| Input { sheet: sheet.encode(), trace: rng.bytes(*length) })
+        .collect();
+    sweep.chunks(GROUP as usize).for_each(|inputs| group(program, inputs, &mut tally));
     let mut by_hand: Vec<Vec<u8>> = special::all().iter().map(|sheet| sheet.encode()).collect();
     let mut done = 0;
     while done < count && !tally.failed() {

@@ -5,7 +5,7 @@ use super::child::Program;
 use super::report::{describe, difference};
 use super::tally::Tally;
 use crate::expected::{expected, write_run};
-use crate::gen::run_lists::{lists, RunList};
+use crate::gen::run_lists::{lists, sweep, RunList};
 use crate::protocol::{Request, Response};
 use crate::rng::Rng;
 use crate::sim::run::LINE;
@@ -13,19 +13,27 @@ use crate::sim::run::LINE;
 /// Lists of one group.
 const GROUP: u64 = 100;
 
-/// Compares the responses to lists of calls over so many sheets.
+/// Compares the responses to lists of calls: the sweep of buffers, then so many sheets.
 pub fn drive(program: &Program, sheets: u64, seed: u64) -> bool {
     let mut tally = Tally::new("runs", 5_000);
     let mut rng = Rng::new(seed);
+    for group in sweep().chunks_mut(GROUP as usize) {
+        follow(program, &mut rng, group, &mut tally);
+    }
     let mut done = 0;
     while done < sheets && !tally.failed() {
         let mut group = lists(&mut rng, GROUP.min(sheets - done), done == 0);
         done += group.len() as u64;
-        while !tally.failed() && group.iter().any(RunList::goes_on) {
-            round(program, &mut rng, &mut group, &mut tally);
-        }
+        follow(program, &mut rng, &mut group, &mut tally);
     }
     tally.close()
+}
+
+/// All calls of a group of lists.
+fn follow(program: &Program, rng: &mut Rng, group: &mut [RunList], tally: &mut Tally) {
+    while !tally.failed() && group.iter().any(RunList::goes_on) {
+        round(program, rng, group, tally);
+    }
 }
 
 /// One call of every list that goes on.

@@ -1,6 +1,7 @@
 //! Seeded generators: good models, calls, damaged tables, sheets, runs.
 
 pub mod accums;
+pub mod buffers;
 pub mod damage;
 pub mod extreme;
 pub mod models;

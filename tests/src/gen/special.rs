@@ -47,7 +47,7 @@ pub fn endless() -> Sheet {
     Sheet { counts: Counts::new(0, 1, 0), starts: vec![1], records: vec![timed(1, op::HOLD, 0, 0, 1)] }
 }
 
-/// How a counted sheet goes on after its steps.
+/// How a sheet goes on after its steps.
 #[derive(Clone, Copy)]
 pub enum After {
     /// Main is at position 0.
@@ -56,6 +56,17 @@ pub enum After {
     Refused,
     /// Main is at position 0, but the last counted step made another process current.
     Elsewhere,
+}
+
+/// Main alone holds 1 tick so many times, and then ends or is refused.
+pub fn straight(steps: u32, after: After) -> Sheet {
+    let mut records: Vec<Record> = (1..=steps).map(|step| timed(step + 1, op::HOLD, 0, 0, 1)).collect();
+    records.push(record(0, op::OUT, 0, 0));
+    if let (After::Ends, Some(last)) = (after, steps.checked_sub(1)) {
+        records[last as usize].next = 0;
+    }
+    let start = if matches!(after, After::Ends) && steps == 0 { 0 } else { 1 };
+    Sheet { counts: Counts::new(0, 1, 0), starts: vec![start], records }
 }
 
 /// A sheet that makes exactly so many steps, from 10 on, and then goes on as told. Main holds 1 tick

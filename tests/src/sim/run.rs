@@ -84,13 +84,14 @@ impl Run {
         if self.model.notices.is_empty() {
             return Err(End::Refused(2)); // only a misreading comes here
         }
-        if on(M::FullBeforeFinished) && room < LINE {
+        let full = room < LINE + usize::from(on(M::LastByteSpared));
+        if on(M::FullBeforeFinished) && full {
             return Err(End::Full);
         }
         if self.finished() {
             return Err(End::Finished);
         }
-        if room < LINE && !(on(M::FullAfterRefused) && self.clone().step(sheet).is_err()) {
+        if full && !(on(M::FullAfterRefused) && self.clone().step(sheet).is_err()) {
             return Err(End::Full);
         }
         self.step(sheet).map_err(End::Refused)
@@ -165,6 +166,7 @@ impl Run {
             let at = LINE * lines as usize;
             match self.turn(sheet, trace.len() - at) {
                 Ok(line) => trace[at..at + LINE].copy_from_slice(&line.bytes()),
+                Err(End::Full) if on(M::PartLineCounted) && at < trace.len() => return (End::Full, lines + 1),
                 Err(end) => return (end, lines),
             }
             lines += 1;
