@@ -61,6 +61,7 @@ run_tests() {
     local tests=target/tests/release/nodbrize_tests desk=target/desk/release/desk
     tally one levels python3 docs/levels.py --check
     tally one scripts scripts
+    tally python3 tests/trace/operators.py
     cargo build --quiet --release --manifest-path tests/Cargo.toml --target-dir target/tests || failed=$((failed + 1))
     tally "$tests" self
     tally "$tests" mutations
