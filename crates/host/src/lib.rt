@@ -42,6 +42,7 @@ pub extern "C" fn nodbrize_run(sheet: &[u8], trace: &mut [u8]) -> u64
             let c = header.counts;
             let n = c.total() + 1;
             let p = wide(c.processes) + 1;
+            // two words in links for none and each linkage, in axis for none, each process and its own head
             let ran = start(
                 header,
                 sheet,

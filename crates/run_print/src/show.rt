@@ -140,6 +140,7 @@ pub(crate) fn show(header: Header, sheet: &[u8])
     let mut positions = [0u32; 1025];
     let mut accums = [0i64; RUN_WORDS];
     let mut trace = [0u8; TRACE_LIMIT];
+    // two words in links for none and each linkage, in axis for none, each process and its own head
     on_tables(
         header,
         sheet,

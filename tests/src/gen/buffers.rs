@@ -4,15 +4,16 @@
 use super::special::{counted, endless, straight, worked, After};
 use crate::sim::run::{LINE, MAX_TRACE};
 use crate::sim::sheet::Sheet;
+use std::ops::RangeInclusive;
 
 /// From no line to three, and from the last length with 4,094 lines to the first that would have 4,097.
-const SHORT: std::ops::RangeInclusive<usize> = 0..=3 * LINE;
-const LONG: std::ops::RangeInclusive<usize> = MAX_TRACE - LINE - 1..=MAX_TRACE + LINE;
+const SHORT: RangeInclusive<usize> = 0..=3 * LINE;
+const LONG: RangeInclusive<usize> = MAX_TRACE - LINE - 1..=MAX_TRACE + LINE;
 
 /// Runs that end with no line to four, or never.
 fn short_sheets() -> Vec<Sheet> {
-    let ends = (0..=4).map(|steps| straight(steps, After::Ends));
-    let refused = (0..=4).map(|steps| straight(steps, After::Refused));
+    let ends = (0..=4).map(|steps| straight(steps, false));
+    let refused = (0..=4).map(|steps| straight(steps, true));
     ends.chain(refused).chain([worked(), endless()]).collect()
 }
 
@@ -22,12 +23,11 @@ fn long_sheets() -> Vec<Sheet> {
     ends.chain([counted(4_096, After::Refused), counted(4_096, After::Elsewhere), endless()]).collect()
 }
 
+fn each(lengths: RangeInclusive<usize>, sheets: Vec<Sheet>) -> impl Iterator<Item = (Sheet, usize)> {
+    sheets.into_iter().flat_map(move |sheet| lengths.clone().map(move |length| (sheet.clone(), length)))
+}
+
 /// Each length with each of its sheets.
 pub fn all() -> Vec<(Sheet, usize)> {
-    let with = |lengths: std::ops::RangeInclusive<usize>, sheets: Vec<Sheet>| -> Vec<(Sheet, usize)> {
-        lengths.flat_map(|length| sheets.iter().map(move |sheet| (sheet.clone(), length)).collect::<Vec<_>>()).collect()
-    };
-    let mut all = with(SHORT, short_sheets());
-    all.extend(with(LONG, long_sheets()));
-    all
+    each(SHORT, short_sheets()).chain(each(LONG, long_sheets())).collect()
 }

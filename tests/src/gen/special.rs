@@ -47,7 +47,7 @@ pub fn endless() -> Sheet {
     Sheet { counts: Counts::new(0, 1, 0), starts: vec![1], records: vec![timed(1, op::HOLD, 0, 0, 1)] }
 }
 
-/// How a sheet goes on after its steps.
+/// How a counted sheet goes on after its steps.
 #[derive(Clone, Copy)]
 pub enum After {
     /// Main is at position 0.
@@ -58,15 +58,12 @@ pub enum After {
     Elsewhere,
 }
 
-/// Main alone holds 1 tick so many times, and then ends or is refused.
-pub fn straight(steps: u32, after: After) -> Sheet {
-    let mut records: Vec<Record> = (1..=steps).map(|step| timed(step + 1, op::HOLD, 0, 0, 1)).collect();
+/// Main alone holds 1 tick so many times; then it is at its end, or its next step is refused with 3.
+pub fn straight(steps: u32, refused: bool) -> Sheet {
+    let next = |step| if step == steps && !refused { 0 } else { step + 1 };
+    let mut records: Vec<Record> = (1..=steps).map(|step| timed(next(step), op::HOLD, 0, 0, 1)).collect();
     records.push(record(0, op::OUT, 0, 0));
-    if let (After::Ends, Some(last)) = (after, steps.checked_sub(1)) {
-        records[last as usize].next = 0;
-    }
-    let start = if matches!(after, After::Ends) && steps == 0 { 0 } else { 1 };
-    Sheet { counts: Counts::new(0, 1, 0), starts: vec![start], records }
+    Sheet { counts: Counts::new(0, 1, 0), starts: vec![next(0)], records }
 }
 
 /// A sheet that makes exactly so many steps, from 10 on, and then goes on as told. Main holds 1 tick
