@@ -1,11 +1,11 @@
--- One step: operands, the call it makes, where the stepping process goes, and the line.
+-- One step: the call it makes, where the stepping process goes, and the line.
 use Prim.Native.Nat.{ℕ, _-_}
 use mathlib.Core.Bool.{Bool, true, false, _&&_}
-use mathlib.Core.List.{List, [], _∷_}
-use lib.Dec.{ltb, eqb}
+use lib.Dec.{eqb}
 use lib.IntN.{pos}
 use lib.ListN.{getD}
 use Rattle.ring_laws.specs.Lists.{if_then_else_}
+use Rattle.model.specs.declared.Counts.{Counts}
 use Rattle.model.specs.declared.call.SetCall.the-variants.{Out, Follow, Precede, Into, Clear}
 use Rattle.model_laws.specs.Tables.{Lists, membersOf}
 use Rattle.model_laws.specs.Result.{done, refused, Result}
@@ -13,20 +13,11 @@ use Rattle.model_laws.specs.Now.{time, current}
 use Rattle.simset_laws.specs.Sets.{noLinks}
 use Rattle.sheet.specs.declared.records.Record.{Record}
 use Rattle.sheet.specs.Sheet.{Sheet}
-use Rattle.sheet.specs.Accepted.{operandBase}
 use Rattle.machine.specs.declared.End.{End}
 use Rattle.machine.specs.declared.End.the-variants.{Refused}
 use Rattle.machine.specs.Machine.{Machine, positionOf, withPosition}
+use Rattle.machine.specs.Operands.{operandOf}
 use Rattle.machine.specs.Calls.{onSet, hold, passivate, wait, cancel, activate, ifEmpty, finish, Call, onList, accum, perform}
-
--- the first of a list, none if it is empty
-abbrev pub firstIn : List ℕ → ℕ
-firstIn [] = 0
-firstIn (x ∷ l) = x
-
--- "0 to N, or 65,536 for current, or 65,536 + h .. for the first member of head h (none if empty)"
-unfoldable pub operandOf : Lists → ℕ → ℕ
-operandOf l v = if ltb v operandBase then v else if eqb v operandBase then current l else firstIn (membersOf (l .sets) (v - operandBase))
 
 -- the call of a record whose operands are x and y; "in 13, x is 1 to 64", and such a number stands for itself
 unfoldable pub callOf : Record → ℕ → ℕ → Call
@@ -60,18 +51,22 @@ recordOf s r = getD (s .records) (r - 1) (record { next = 0; operation = 0; clau
 abbrev pub recordNow : Sheet → Machine → ℕ
 recordNow s m = positionOf (s .counts) m (current (m .lists))
 
-abbrev pub itsCall : Record → Lists → Call
-itsCall q l = callOf q (operandOf l (q .x)) (operandOf l (q .y))
+-- what v, which is x or y of record q, means
+abbrev pub itsOperand : Counts → Record → Lists → ℕ → ℕ
+itsOperand c q l v = operandOf c (q .operation) l v
 
-abbrev pub itsNext : Record → Lists → ℕ
-itsNext q l = nextOf q (noLinks (membersOf (l .sets) (operandOf l (q .x))))
+abbrev pub itsCall : Counts → Record → Lists → Call
+itsCall c q l = callOf q (itsOperand c q l (q .x)) (itsOperand c q l (q .y))
+
+abbrev pub itsNext : Counts → Record → Lists → ℕ
+itsNext c q l = nextOf q (noLinks (membersOf (l .sets) (itsOperand c q l (q .x))))
 
 -- "one step: the record's call, or finish at position 0"; a finish leaves the position at 0
 unfoldable pub callNow : Sheet → Machine → Call
-callNow s m = if eqb (recordNow s m) 0 then onList finish else itsCall (recordOf s (recordNow s m)) (m .lists)
+callNow s m = if eqb (recordNow s m) 0 then onList finish else itsCall (s .counts) (recordOf s (recordNow s m)) (m .lists)
 
 unfoldable pub nextNow : Sheet → Machine → ℕ
-nextNow s m = if eqb (recordNow s m) 0 then 0 else itsNext (recordOf s (recordNow s m)) (m .lists)
+nextNow s m = if eqb (recordNow s m) 0 then 0 else itsNext (s .counts) (recordOf s (recordNow s m)) (m .lists)
 
 -- "An accepted step writes time (64 bits), process (32) and record (32) as they were before it"
 pub record Line : Type 0 where

@@ -1,4 +1,4 @@
--- The machine tried on whole sheets, by computation: the papers' worked sheet under several lists of buffers, and two small ones.
+-- The machine tried on whole sheets, by computation: the papers' worked sheet under several lists of buffers, and small ones.
 use Prim.Native.Nat.{ℕ}
 use mathlib.Core.Path.{_≡_, refl}
 use mathlib.Core.Bool.{Bool, true, false, _&&_}
@@ -7,6 +7,7 @@ use lib.Dec.{eqb}
 use lib.IntN.{ℤ, pos}
 use lib.ListN.{getD}
 use Rattle.model.specs.Refusals.{refusalNumber}
+use Rattle.model_laws.specs.Tables.{membersOf}
 use Rattle.simulation_laws.specs.Plain.{dueFor, placed, noEffect, timed}
 use Rattle.simulation_laws.specs.Plain as plain
 use Rattle.accum_laws.specs.Keeps.{zero-accumulator}
@@ -19,7 +20,8 @@ use Rattle.machine.specs.declared.End.{End}
 use Rattle.machine.specs.declared.End.the-variants.{Finished, Full, Refused}
 use Rattle.machine.specs.Machine.{fresh}
 use Rattle.machine.specs.Calls.{listsAfter, perform}
-use Rattle.machine.specs.Steps.{operandOf, callOf, nextOf, callNow, nextNow, Line, step}
+use Rattle.machine.specs.Operands.{firstIn, operandOf}
+use Rattle.machine.specs.Steps.{callOf, nextOf, callNow, nextNow, Line, step}
 use Rattle.machine.specs.Run.{turn, Ran, turns, call, calls, lastOf}
 
 -- ---- what a list of calls is to bring
@@ -54,8 +56,8 @@ want ls n = record { lines = ls; code = n }
 
 -- the calls of a fresh run with buffers of these lengths
 unfoldable pub brings : Sheet → List ℕ → List Want → Bool
-unfolding u32At u64At i64At countsOf recordsOf startAt recordFrom sheetOf plain.hold plain.passivate plain.finish dueFor placed noEffect
-    timed mayUpdate grownOf updatedOf fresh listsAfter perform operandOf callOf nextOf callNow nextNow step turn turns call calls
+unfolding u32At u64At i64At countsOf recordsOf startAt recordFrom sheetOf plain.hold plain.passivate plain.cancel plain.finish dueFor placed
+    noEffect timed mayUpdate grownOf updatedOf fresh listsAfter perform operandOf callOf nextOf callNow nextNow step turn turns call calls
 brings s lens ws = bring (calls s (fresh s) lens) ws
 
 -- ---- the worked sheet: lines 0 2 1, 0 2 2, 5 3 3 and 5 3 0, then finished
@@ -121,3 +123,42 @@ tied =
 pub tied-run : brings tied (64 ∷ []) (want (line 0 1 1 ∷ line 0 1 2 ∷ line 5 2 0 ∷ []) 0 ∷ []) ≡ true
 unfolding brings
 tied-run = refl
+
+-- ---- crates and benches in one queue
+
+abbrev timedBy : ℕ → ℕ → ℕ → ℕ → ℕ → Record
+timedBy next op clause x y = record { next = next; operation = op; clause = clause; x = x; y = y; t = pos 0 }
+
+-- main puts crate 5 and behind it bench 3 into head 1, and wakes the first process there, which is 3; that moves the first member, the
+-- crate, to the end; main cancels the first process, then takes the first member out, which is 3 now
+abbrev mixed : Sheet
+mixed =
+    record {
+      counts = record { heads = 1; processes = 3; plains = 1 };
+      starts = 1 ∷ 4 ∷ 0 ∷ [];
+      records = does 2 4 5 1 (pos 0) ∷ does 3 4 3 1 (pos 0) ∷ timedBy 5 10 0 65537 0 ∷ does 0 4 65537 1 (pos 0)
+          ∷ does 6 9 65537 0 (pos 0) ∷ does 0 1 65537 0 (pos 0) ∷ [];
+    }
+
+pub mixed-run :
+    brings mixed (128 ∷ [])
+    (want (line 0 2 1 ∷ line 0 2 2 ∷ line 0 2 3 ∷ line 0 3 4 ∷ line 0 3 0 ∷ line 0 2 5 ∷ line 0 2 6 ∷ []) 0 ∷ [])
+    && eqb (firstIn (membersOf (lastOf (fresh mixed) (calls mixed (fresh mixed) (128 ∷ [])) .lists .sets) 1)) 5
+    ≡ true
+unfolding brings
+mixed-run = refl
+
+-- with crates alone the first process is none: activate, cancel and a Y of none do nothing, and reactivate beside it drops the last notice
+abbrev crates : Sheet
+crates =
+    record {
+      counts = record { heads = 1; processes = 2; plains = 1 };
+      starts = 1 ∷ 0 ∷ [];
+      records = does 2 4 4 1 (pos 0) ∷ timedBy 3 10 0 65537 0 ∷ timedBy 4 11 0 65537 0 ∷ does 5 9 65537 0 (pos 0)
+          ∷ timedBy 6 10 5 3 65537 ∷ timedBy 0 11 6 65536 65537 ∷ [];
+    }
+
+pub crates-run :
+    brings crates (160 ∷ []) (want (line 0 2 1 ∷ line 0 2 2 ∷ line 0 2 3 ∷ line 0 2 4 ∷ line 0 2 5 ∷ []) 4 ∷ []) ≡ true
+unfolding brings
+crates-run = refl

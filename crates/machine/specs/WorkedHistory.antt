@@ -11,7 +11,8 @@ use Rattle.sheet.specs.Sheet.{countsOf, recordsOf, startAt, recordFrom, sheetOf
 use Rattle.sheet.specs.Examples.{worked}
 use Rattle.machine.specs.Machine.{fresh}
 use Rattle.machine.specs.Calls.{listsAfter, perform}
-use Rattle.machine.specs.Steps.{operandOf, callOf, nextOf, callNow, nextNow, step}
+use Rattle.machine.specs.Operands.{operandOf}
+use Rattle.machine.specs.Steps.{callOf, nextOf, callNow, nextNow, step}
 use Rattle.machine.specs.Run.{turn, uncut}
 use Rattle.machine.specs.History.{How, atFirst, behind, inFront, rightBefore, rightAfter, howOf, clausePlacing, listPlacing, placing}
 use Rattle.machine.specs.History.{Scheduled, scheduled, StandsTo, Beside}

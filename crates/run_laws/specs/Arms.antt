@@ -2,7 +2,7 @@
 use Prim.Native.Nat.{ℕ, _+_, _≤_}
 use mathlib.Core.Path.{_≡_, refl, sym, ap, _∙_}
 use mathlib.Core.Logic.{_≢_}
-use mathlib.Core.Bool.{false}
+use mathlib.Core.Bool.{true, false}
 use mathlib.Core.List.{List}
 use native.Mathlib.Omega.{arith}
 use lib.IntN.{ℤ, pos}
@@ -32,7 +32,7 @@ use Rattle.machine.specs.Calls.{ListCall, onSet, hold, passivate, wait, cancel,
 use Rattle.run_laws.specs.OnTables.{operandWith, tablesAfter, Carried, carriedOut}
 use Rattle.run_laws.specs.declared.Effect.{Effect}
 use Rattle.run_laws.specs.declared.Effect.the-variants.{Stays, Jumps, Moves}
-use Rattle.run_laws.specs.Run.{resolved, callDue}
+use Rattle.run_laws.specs.Run.{recordOperand, resolved, callDue}
 use Rattle.run_laws.specs.Performed.{listEffect, callEffect, effectOf, unlessRefused, branched, performed}
 use Rattle.run_laws.specs.Which as which
 
@@ -49,18 +49,28 @@ module _ (c : Counts) (q : Record) (f : ℕ) (links axis times marks : List ℕ)
   abbrev t : Tables
   t = modelOf links axis times marks
 
+  -- what x and y mean where the operation takes no process, where it takes one, and what x means in this operation
   abbrev x : ℕ
-  x = operandWith c links f (q .x)
+  x = operandWith c false links f (q .x)
 
   abbrev y : ℕ
-  y = operandWith c links f (q .y)
+  y = operandWith c false links f (q .y)
+
+  abbrev x-process : ℕ
+  x-process = operandWith c true links f (q .x)
+
+  abbrev y-process : ℕ
+  y-process = operandWith c true links f (q .y)
+
+  abbrev its-x : ℕ
+  its-x = recordOperand c links f q (q .x)
 
   abbrev due : Call
   due = callDue (resolved c links f q)
 
   -- ---- by what the call carries out
 
-  by : (k : Call) → due ≡ k → (e : Effect) → e ≡ effectOf k q (emptyOf x links) → (a : Carried) → a ≡ carriedOut c k t w
+  by : (k : Call) → due ≡ k → (e : Effect) → e ≡ effectOf k q (emptyOf its-x links) → (a : Carried) → a ≡ carriedOut c k t w
       → (v : Effect) → v ≡ unlessRefused (a .answer) e → record { tables = a .tables; words = a .words; effect = v } ≡ performed c q f t w
   unfolding performed resolved
   by k ek e ee a ea v ev =
@@ -68,13 +78,13 @@ module _ (c : Counts) (q : Record) (f : ℕ) (links axis times marks : List ℕ)
       ∙ ap (λ (o : Carried). record {
         tables = o .tables;
         words = o .words;
-        effect = unlessRefused (o .answer) (effectOf k q (emptyOf x links));
+        effect = unlessRefused (o .answer) (effectOf k q (emptyOf its-x links));
       }) ea
       ∙ sym (ap (λ (j : Call). let o = carriedOut c j t w in
-      record { tables = o .tables; words = o .words; effect = unlessRefused (o .answer) (effectOf j q (emptyOf x links)) }) ek)
+      record { tables = o .tables; words = o .words; effect = unlessRefused (o .answer) (effectOf j q (emptyOf its-x links)) }) ek)
 
   -- an operation other than 12
-  plain : (n : ℕ) → q .operation ≡ n → n ≢ 12 → (k : Call) → callEffect k ≡ effectOf k q (emptyOf x links)
+  plain : (n : ℕ) → q .operation ≡ n → n ≢ 12 → (k : Call) → callEffect k ≡ effectOf k q (emptyOf its-x links)
   unfolding effectOf
   plain n e z k = rw (ne-eqb (q .operation) 12 (λ o. z (sym e ∙ o)))
 
@@ -140,34 +150,34 @@ module _ (c : Counts) (q : Record) (f : ℕ) (links axis times marks : List ℕ)
           list-by 8 e (λ z. omega arith) r v (wait y) (which.call-8 c links f q e) _
           (on-sets c links axis times marks a u l r (λ n s. waitStep c y n s) k) ev
 
-      pub arm-9 : q .operation ≡ 9 → Answers (half c) (cancelStep c x (sqs axis times)) a u r → Axis
+      pub arm-9 : q .operation ≡ 9 → Answers (half c) (cancelStep c x-process (sqs axis times)) a u r → Axis
       unfolding tablesAfter
       arm-9 e k =
-          list-by 9 e (λ z. omega arith) r v (cancel x) (which.call-9 c links f q e) _
-          (on-sqs (half c) links axis times marks a u r (λ m s. cancelStep c x s) k) ev
+          list-by 9 e (λ z. omega arith) r v (cancel x-process) (which.call-9 c links f q e) _
+          (on-sqs (half c) links axis times marks a u r (λ m s. cancelStep c x-process s) k) ev
 
       -- 10 and 11
       pub arm-timed : 10 ≤ q .operation → q .operation ≤ 11
-          → Answers (half c) (timedStep c (eqb (q .operation) 11) (q .clause) x y (q .t) marks (sqs axis times)) a u r → Axis
+          → Answers (half c) (timedStep c (eqb (q .operation) 11) (q .clause) x-process y-process (q .t) marks (sqs axis times)) a u r → Axis
       unfolding tablesAfter
       arm-timed lo hi k =
-          list-by (q .operation) refl (λ z. omega arith) r v (activate (eqb (q .operation) 11) (q .clause) x y (q .t))
+          list-by (q .operation) refl (λ z. omega arith) r v (activate (eqb (q .operation) 11) (q .clause) x-process y-process (q .t))
           (which.call-timed c links f q lo hi) _
-          (on-sqs (half c) links axis times marks a u r (λ m s. timedStep c (eqb (q .operation) 11) (q .clause) x y (q .t) m s) k) ev
+          (on-sqs (half c) links axis times marks a u r (λ m s. timedStep c (eqb (q .operation) 11) (q .clause) x-process y-process (q .t) m s) k) ev
 
       -- 10 with no clause, which uses neither y nor t
-      pub arm-10 : q .operation ≡ 10 → q .clause ≡ 0 → Answers (half c) (timedStep c false 0 x 0 (pos 0) marks (sqs axis times)) a u r
+      pub arm-10 : q .operation ≡ 10 → q .clause ≡ 0 → Answers (half c) (timedStep c false 0 x-process 0 (pos 0) marks (sqs axis times)) a u r
           → Axis
       arm-10 e z k =
           arm-timed (omega arith) (omega arith)
-          (rw (e, z, ← (direct c x y (q .t) marks (sqs axis times))) k)
+          (rw (e, z, ← (direct c x-process y-process (q .t) marks (sqs axis times))) k)
 
       -- 10 after a delay
-      pub arm-delay : q .operation ≡ 10 → q .clause ≡ 2 → Answers (half c) (timedStep c false 2 x 0 (q .t) marks (sqs axis times)) a u r
+      pub arm-delay : q .operation ≡ 10 → q .clause ≡ 2 → Answers (half c) (timedStep c false 2 x-process 0 (q .t) marks (sqs axis times)) a u r
           → Axis
       arm-delay e z k =
           arm-timed (omega arith) (omega arith)
-          (rw (e, z, ← (delayed c x y (q .t) marks (sqs axis times))) k)
+          (rw (e, z, ← (delayed c x-process y-process (q .t) marks (sqs axis times))) k)
 
       -- finish, at position 0
       pub arm-0 : (ms : List ℕ) → q .operation ≡ 0 → FinishMade c (finishStep c marks (sqs axis times)) a u ms r
@@ -192,5 +202,5 @@ module _ (c : Counts) (q : Record) (f : ℕ) (links axis times marks : List ℕ)
   unfolding carriedOut tablesAfter effectOf
   arm-12 e v ev =
       by (onList (ifEmpty x)) (which.call-12 c links f q e) (if emptyOf x links then Jumps (q .y) else Stays)
-      (rw (eq-eqb (q .operation) 12 e))
+      (rw e)
       (record { tables = t; words = w; answer = toldIf (isHead c x) Done }) refl v ev

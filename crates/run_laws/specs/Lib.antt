@@ -1,5 +1,6 @@
 -- Runs of model sheets: what the code computes, that it follows the plain machine, and demand 3.
 pub mod OnTables
+pub mod Walking
 pub mod Resolving
 pub mod PerformFollows
 pub mod MachineTurns

@@ -1,11 +1,13 @@
 -- The calls of a step on a run's tables: the published procedures on the model's, accum on the flat list of words.
-use Prim.Native.Nat.{ℕ, _-_}
+use Prim.Native.Nat.{ℕ, zero, suc, _+_, _-_}
+use mathlib.Core.Bool.{Bool}
 use mathlib.Core.List.{List}
-use lib.Dec.{ltb, eqb}
+use lib.Dec.{ltb, leb, eqb}
 use lib.IntN.{ℤ}
+use lib.ListN.{getD}
 use Rattle.ring_laws.specs.Lists.{if_then_else_}
 use Rattle.model.specs.declared.Counts.{Counts}
-use Rattle.model.specs.Counts.{isHead, linkageAt}
+use Rattle.model.specs.Counts.{isHead, isProcess, linkageAt, total}
 use Rattle.model.specs.declared.answer.Answer.{Answer}
 use Rattle.model.specs.declared.answer.Answer.the-variants.{Done}
 use Rattle.model_laws.specs.Tables.{Tables, After}
@@ -27,12 +29,27 @@ currentAt c axis = linkageAt c (firstOf (half c) axis)
 abbrev pub firstAt : Counts → List ℕ → ℕ → ℕ
 firstAt c links h = sets.sucOf (c .heads) h links
 
--- "0 to N, or 65,536 for current, or 65,536 + h .. for the first member of head h (none if empty)"; f is current's place
-unfoldable pub operandWith : Counts → List ℕ → ℕ → ℕ → ℕ
-operandWith c links f v = if ltb v operandBase then v else if eqb v operandBase then linkageAt c f else firstAt c links (v - operandBase)
+-- along a ring from i on, by at most k places: the first process, none where the head is reached
+unfoldable pub processFrom : Counts → List ℕ → ℕ → ℕ → ℕ
+processFrom c links zero i = 0
+processFrom c links (suc k) i =
+    if isProcess c i then i else if leb i (c .heads) then 0 else processFrom c links k (getD links i 0)
 
-abbrev pub operandAt : Counts → List ℕ → List ℕ → ℕ → ℕ
-operandAt c links axis v = operandWith c links (firstOf (half c) axis) v
+-- "the first member of head h that is a process, or none"
+abbrev pub processAt : Counts → List ℕ → ℕ → ℕ
+processAt c links h = processFrom c links (total c + 1) (getD links h 0)
+
+-- the member of head h that an operand means; takes, where the operation takes a process
+abbrev pub memberAt : Counts → Bool → List ℕ → ℕ → ℕ
+memberAt c takes links h = if takes then processAt c links h else firstAt c links h
+
+-- "0 to N, or 65,536 for current, or 65,536 + h .. for the first member of head h (none if empty)"; f is current's place
+unfoldable pub operandWith : Counts → Bool → List ℕ → ℕ → ℕ → ℕ
+operandWith c takes links f v =
+    if ltb v operandBase then v else if eqb v operandBase then linkageAt c f else memberAt c takes links (v - operandBase)
+
+abbrev pub operandAt : Counts → Bool → List ℕ → List ℕ → ℕ → ℕ
+operandAt c takes links axis v = operandWith c takes links (firstOf (half c) axis) v
 
 -- ---- calling
 

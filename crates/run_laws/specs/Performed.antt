@@ -64,7 +64,7 @@ unlessRefused (NotDone r) e = Refused r
 -- 12 by itself: refusal 3 where x is no head
 abbrev pub branched : Counts → Record → ℕ → List ℕ → Effect
 branched c q f links =
-    let x = operandWith c links f (q .x) in
+    let x = operandWith c false links f (q .x) in
     unlessRefused (toldIf (isHead c x) Done) (if emptyOf x links then Jumps (q .y) else Stays)
 
 pub record Performed : Type 0 where

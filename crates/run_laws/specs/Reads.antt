@@ -18,7 +18,7 @@ use Rattle.sheet.specs.declared.records.Record.{Record}
 use Rattle.sheet.specs.Sheet.{recordOffset, recordFrom, recordWith}
 use Rattle.sheet.specs.Accepted.{isOperand, operandBase}
 use Rattle.sheet.specs.Fields.{operand-kinds}
-use Rattle.run_laws.specs.OnTables.{operandWith}
+use Rattle.run_laws.specs.OnTables.{memberAt, operandWith}
 use Rattle.run_laws.specs.Run.{endRecord, recordGot, endsNow}
 use Rattle.run_laws.specs.declared.Effect.the-variants.{Stays, Jumps, Refused}
 use Rattle.run_laws.specs.Performed.{branched}
@@ -49,13 +49,14 @@ module _ (c : Counts) (axis positions : List ℕ) (f : ℕ) (is : f ≡ firstOf 
       and-true false = refl
 
 module _ (c : Counts) (links : List ℕ) (f v : ℕ) (z : Resolvable c links f) where
-  pub operand-low : v ≤ total c → v ≡ operandWith c links f v
-  unfolding operandWith
-  operand-low l = rw (lt-ltb v operandBase (omega (arith, z .allowed .heads-in, z .allowed .processes-in, z .allowed .plains-in)))
+  module _ (takes : Bool) where
+    pub operand-low : v ≤ total c → v ≡ operandWith c takes links f v
+    unfolding operandWith
+    operand-low l = rw (lt-ltb v operandBase (omega (arith, z .allowed .heads-in, z .allowed .processes-in, z .allowed .plains-in)))
 
-  pub operand-current : v ≡ operandBase → c .heads + f ≡ operandWith c links f v
-  unfolding operandWith
-  operand-current e = rw (le-ltb v operandBase (omega arith), eq-eqb v operandBase e)
+    pub operand-current : v ≡ operandBase → c .heads + f ≡ operandWith c takes links f v
+    unfolding operandWith
+    operand-current e = rw (le-ltb v operandBase (omega arith), eq-eqb v operandBase e)
 
   module _ (o : isOperand c v ≡ true) (l : total c < v) (n : v ≢ operandBase) where
     pub above : (operandBase ≤ v) × (v - operandBase ≤ c .heads)
@@ -68,21 +69,21 @@ module _ (c : Counts) (links : List ℕ) (f v : ℕ) (z : Resolvable c links f) 
       pub head-within : h < length links
       head-within = omega (arith, above .1, z .sound .two)
 
-      pub operand-first : (r : ℕ) → r ≡ linkOr (c .heads) (getD links h 0) → r ≡ operandWith c links f v
+      pub operand-member : (takes : Bool) (r : ℕ) → r ≡ memberAt c takes links h → r ≡ operandWith c takes links f v
       unfolding operandWith
-      operand-first r is = rw (le-ltb v operandBase (above .0), ne-eqb v operandBase n)
-          (is ∙ ap (λ (j : ℕ). linkOr (c .heads) (getD links j 0)) e)
+      operand-member takes r is = rw (le-ltb v operandBase (above .0), ne-eqb v operandBase n)
+          (is ∙ ap (memberAt c takes links) e)
 
-  -- an operand stands for a head only where it is its number
-  pub no-head : isOperand c v ≡ true → 0 < f → isHead c v ≡ false → isHead c (operandWith c links f v) ≡ false
+  -- where the operation takes no process, an operand stands for a head only where it is its number
+  pub no-head : isOperand c v ≡ true → 0 < f → isHead c v ≡ false → isHead c (operandWith c false links f v) ≡ false
   unfolding linkOr
   no-head o some e =
       below (total c) v
       (λ l. decide v operandBase
-      (λ z. ap (isHead c) (sym (operand-current z)) ∙ above-heads (c .heads + f) (omega arith))
-      (λ n. ap (isHead c) (sym (operand-first o l n (v - operandBase) refl (linkOr (c .heads) (getD links (v - operandBase) 0)) refl))
+      (λ z. ap (isHead c) (sym (operand-current false z)) ∙ above-heads (c .heads + f) (omega arith))
+      (λ n. ap (isHead c) (sym (operand-member o l n (v - operandBase) refl false (linkOr (c .heads) (getD links (v - operandBase) 0)) refl))
       ∙ first (getD links (v - operandBase) 0)))
-      (λ l. ap (isHead c) (sym (operand-low l)) ∙ e)
+      (λ l. ap (isHead c) (sym (operand-low false l)) ∙ e)
     where
       above-heads : (x : ℕ) → c .heads < x → isHead c x ≡ false
       above-heads x l = rw (lt-leb x (c .heads) l) (and-false (leb 1 x))
@@ -92,12 +93,12 @@ module _ (c : Counts) (links : List ℕ) (f v : ℕ) (z : Resolvable c links f) 
 
 -- ---- 12
 
-module _ (c : Counts) (q : Record) (f : ℕ) (links : List ℕ) (x : ℕ) (is : x ≡ operandWith c links f (q .x)) where
+module _ (c : Counts) (q : Record) (f : ℕ) (links : List ℕ) (x : ℕ) (is : x ≡ operandWith c false links f (q .x)) where
   pub branch-3 : isHead c x ≡ false → Refused Operand ≡ branched c q f links
   branch-3 e = rw (ap (isHead c) (sym is) ∙ e)
 
   module _ (head : isHead c x ≡ true) (h : ℕ) (same : h ≡ x) where
-    at : getD links h 0 ≡ getD links (operandWith c links f (q .x)) 0
+    at : getD links h 0 ≡ getD links (operandWith c false links f (q .x)) 0
     at = ap (λ (j : ℕ). getD links j 0) (same ∙ is)
 
     pub branch-to : getD links h 0 ≡ x → (y : ℕ) → y ≡ q .y → Jumps y ≡ branched c q f links

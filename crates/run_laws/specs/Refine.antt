@@ -23,11 +23,10 @@ use Rattle.sheet.specs.Fields.{Ranged}
 use Rattle.sheet.specs.Ranges.{record-listed, few-records}
 use Rattle.trace.specs.Lines.{lineBytes}
 use Rattle.machine.specs.Machine.{Machine}
-use Rattle.machine.specs.Steps.{operandOf, callOf, nextOf, recordOf, recordNow, Line, lineNow}
+use Rattle.machine.specs.Steps.{itsOperand, callOf, nextOf, recordOf, recordNow, Line, lineNow}
 use Rattle.machine.specs.Run.{atEnd}
-use Rattle.run_laws.specs.OnTables.{operandAt}
 use Rattle.run_laws.specs.Resolving.{current-at, time-at, operand-plain, operand-at, empty-at}
-use Rattle.run_laws.specs.Run.{RunTables, resolved, callDue, recordAtNow, lineIn, endsNow}
+use Rattle.run_laws.specs.Run.{RunTables, recordOperand, resolved, callDue, recordAtNow, lineIn, endsNow}
 use Rattle.run_laws.specs.Standing.{Stands, Standing, sized, ready, its-range}
 
 -- the bytes of a line
@@ -107,14 +106,20 @@ module _ (bytes : List ℕ) (ok : accepted bytes ≡ true) (m : Machine) (u : Ru
     ranged : Ranged (record { counts = c; records = recordsOf bytes }) q
     ranged = its-range c bytes u stood r most n
 
-    same-operand : (v : ℕ) → (isOperand c v ≡ true → operandAt c (u .model .links) (u .model .axis) v ≡ operandOf l v)
-        × (v < operandBase → operandAt c (u .model .links) (u .model .axis) v ≡ operandOf l v)
+    -- what v means on the tables, and on the lists
+    abbrev onTables : ℕ → ℕ
+    onTables v = recordOperand c (u .model .links) (firstOf (half c) (u .model .axis)) q v
+
+    abbrev onLists : ℕ → ℕ
+    onLists v = itsOperand c q l v
+
+    same-operand : (v : ℕ) → (isOperand c v ≡ true → onTables v ≡ onLists v) × (v < operandBase → onTables v ≡ onLists v)
     same-operand v = (
-      λ o. operand-at c l (u .model) fit (g .model) v o,
-      λ b. let p = operand-plain c l (u .model) fit (g .model) v b in p .0 ∙ sym (p .1),
+      λ o. operand-at c l (u .model) fit (g .model) (q .operation) v o,
+      λ b. let p = operand-plain c l (u .model) fit (g .model) (q .operation) v b in p .0 ∙ sym (p .1),
     )
 
-    x-is : operandAt c (u .model .links) (u .model .axis) (q .x) ≡ operandOf l (q .x)
+    x-is : onTables (q .x) ≡ onLists (q .x)
     x-is =
         decide (q .operation) 13
         (λ e. same-operand (q .x) .1 (small (q .x) (ranged .x-accumulator e .1)))
@@ -123,7 +128,7 @@ module _ (bytes : List ℕ) (ok : accepted bytes ≡ true) (m : Machine) (u : Ru
         small : (v : ℕ) → v ≤ 64 → v < operandBase
         small v b = omega arith
 
-    y-is : operandAt c (u .model .links) (u .model .axis) (q .y) ≡ operandOf l (q .y)
+    y-is : onTables (q .y) ≡ onLists (q .y)
     y-is =
         decide (q .operation) 12
         (λ e. same-operand (q .y) .1 (small (q .y) (recordsOf bytes) (ranged .y-record e) (few-records bytes ok)))
@@ -133,22 +138,22 @@ module _ (bytes : List ℕ) (ok : accepted bytes ≡ true) (m : Machine) (u : Ru
         small v R a b = omega arith
 
     pub some-call : callDue (resolved c (u .model .links) (firstOf (half c) (u .model .axis)) q)
-        ≡ callOf q (operandOf l (q .x)) (operandOf l (q .y))
+        ≡ callOf q (onLists (q .x)) (onLists (q .y))
     unfolding callDue resolved callOf
     some-call =
         rw (ne-eqb (q .operation) 0 (λ z. none (q .operation) (ranged .operation-some) z))
-        (ap (λ (x : ℕ). callOf q x (operandAt c (u .model .links) (u .model .axis) (q .y))) x-is ∙ ap (callOf q (operandOf l (q .x))) y-is)
+        (ap (λ (x : ℕ). callOf q x (onTables (q .y))) x-is ∙ ap (callOf q (onLists (q .x))) y-is)
       where
         none : (v : ℕ) → 1 ≤ v → v ≡ 0 → ⊥
         none v a b = omega arith
 
     -- where 12 is accepted its x is a head, so that both find it empty or neither
-    pub some-next : (q .operation ≡ 12 → isHead c (operandOf l (q .x)) ≡ true)
+    pub some-next : (q .operation ≡ 12 → isHead c (onLists (q .x)) ≡ true)
         → resolved c (u .model .links) (firstOf (half c) (u .model .axis)) q .next
-        ≡ nextOf q (noLinks (membersOf (l .sets) (operandOf l (q .x))))
+        ≡ nextOf q (noLinks (membersOf (l .sets) (onLists (q .x))))
     unfolding resolved nextOf
     some-next h =
         decide (q .operation) 12
         (λ e. ap (λ (b : Bool). nextOf q b)
-        (ap (λ (x : ℕ). emptyOf x (u .model .links)) x-is ∙ empty-at c l (u .model) fit (g .model) (operandOf l (q .x)) (h e)))
+        (ap (λ (x : ℕ). emptyOf x (u .model .links)) x-is ∙ empty-at c l (u .model) fit (g .model) (onLists (q .x)) (h e)))
         (λ d. rw (ne-eqb (q .operation) 12 d))

@@ -23,8 +23,9 @@ use Rattle.simset_laws.specs.QueryLaws.{or-link, or-none, empty-says}
 use Rattle.simset_laws.specs.Meaning.{head-of}
 use Rattle.sheet.specs.Accepted.{isOperand, operandBase}
 use Rattle.sheet.specs.Fields.{operand-high}
-use Rattle.machine.specs.Steps.{firstIn, operandOf}
-use Rattle.run_laws.specs.OnTables.{currentAt, firstAt, operandWith, operandAt}
+use Rattle.machine.specs.Operands.{firstIn, firstProcess, takesProcess, memberMeant, operandOf}
+use Rattle.run_laws.specs.OnTables.{currentAt, firstAt, processAt, memberAt, operandWith, operandAt}
+use Rattle.run_laws.specs.Walking.{process-of}
 
 -- the successor of a head is its first member, none where it has none
 first-of : (m H : ℕ) (sets : List (List ℕ)) (t : List ℕ) → SpellsSets m H sets t → (h : ℕ) → Head m (setHead H) h
@@ -43,24 +44,35 @@ module _ (c : Counts) (l : Lists) (t : Tables) (w : Sized c t) (s : Spells c l t
   pub time-at : timeOf (half c) (t .axis) (t .times) ≡ time l
   time-at = time-now c l t s
 
-  pub first-at : (h : ℕ) → 1 ≤ h → h ≤ c .heads → firstAt c (t .links) h ≡ firstIn (membersOf (l .sets) h)
-  first-at h a b = first-of (total c + 1) (c .heads) (l .sets) (t .links) (s .links) h
-      (set-head (total c + 1) (c .heads) h a b (omega arith))
+  module _ (h : ℕ) (some : 1 ≤ h) (most : h ≤ c .heads) where
+    head : Head (total c + 1) (setHead (c .heads)) h
+    head = set-head (total c + 1) (c .heads) h some most (omega arith)
+
+    pub first-at : firstAt c (t .links) h ≡ firstIn (membersOf (l .sets) h)
+    first-at = first-of (total c + 1) (c .heads) (l .sets) (t .links) (s .links) h head
+
+    -- request 2.4: the walk along the ring finds what the list says
+    pub process-at : processAt c (t .links) h ≡ firstProcess c (membersOf (l .sets) h)
+    process-at = process-of c (l .sets) (t .links) (s .links) h head
+
+    pub member-at : (op : ℕ) → memberAt c (takesProcess op) (t .links) h ≡ memberMeant c op (membersOf (l .sets) h)
+    member-at op = test (takesProcess op) (λ e. rw e process-at) (λ e. rw e first-at)
 
   -- a number below 65,536 stands for itself
-  pub operand-plain : (v : ℕ) → v < operandBase → (operandAt c (t .links) (t .axis) v ≡ v) × (operandOf l v ≡ v)
+  pub operand-plain : (op v : ℕ) → v < operandBase
+      → (operandAt c (takesProcess op) (t .links) (t .axis) v ≡ v) × (operandOf c op l v ≡ v)
   unfolding operandWith operandOf
-  operand-plain v h = rw (lt-ltb v operandBase h) (refl, refl)
+  operand-plain op v h = rw (lt-ltb v operandBase h) (refl, refl)
 
-  pub operand-at : (v : ℕ) → isOperand c v ≡ true → operandAt c (t .links) (t .axis) v ≡ operandOf l v
+  pub operand-at : (op v : ℕ) → isOperand c v ≡ true → operandAt c (takesProcess op) (t .links) (t .axis) v ≡ operandOf c op l v
   unfolding operandWith operandOf
-  operand-at v o =
+  operand-at op v o =
       test (ltb v operandBase)
       (λ e. rw e)
       (λ e. test (eqb v operandBase)
       (λ q. rw (e, q) current-at)
       (λ q. let h = operand-high c (w .allowed) v o (above v (ltb-false v operandBase e) (eqb-false v operandBase q)) in
-      rw (e, q) (first-at (v - operandBase) (h .0) (h .1))))
+      rw (e, q) (member-at (v - operandBase) (h .0) (h .1) op)))
     where
       above : (v : ℕ) → operandBase ≤ v → (v ≡ operandBase → ⊥) → operandBase < v
       above v a b = omega arith

@@ -29,6 +29,7 @@ use Rattle.trace.specs.Lines.{put, lineBytes}
 use Rattle.machine.specs.declared.End.{End}
 use Rattle.machine.specs.declared.End.the-variants.{Finished, Full, Refused}
 use Rattle.machine.specs.Calls.{Call, onList, finish}
+use Rattle.machine.specs.Operands.{takesProcess}
 use Rattle.machine.specs.Steps.{callOf, nextOf}
 use Rattle.machine.specs.Run.{lineSize, traceLimit}
 use Rattle.run_laws.specs.OnTables.{operandWith, Carried, carriedOut}
@@ -78,15 +79,20 @@ endRecord = record { next = 0; operation = 0; clause = 0; x = 0; y = 0; t = pos 
 unfoldable pub recordGot : ℕ → List ℕ → ℕ → Record
 recordGot P bytes r = if eqb r 0 then endRecord else recordWith P bytes r
 
+-- what v, which is x or y of record q, means where current is at place f
+abbrev pub recordOperand : Counts → List ℕ → ℕ → Record → ℕ → ℕ
+recordOperand c links f q v = operandWith c (takesProcess (q .operation)) links f v
+
 -- the record with its operands resolved, where current is at place f, and next where the process goes
 unfoldable pub resolved : Counts → List ℕ → ℕ → Record → Record
 resolved c links f q =
+    let x = recordOperand c links f q (q .x) in
     record {
-      next = nextOf q (emptyOf (operandWith c links f (q .x)) links);
+      next = nextOf q (emptyOf x links);
       operation = q .operation;
       clause = q .clause;
-      x = operandWith c links f (q .x);
-      y = operandWith c links f (q .y);
+      x = x;
+      y = recordOperand c links f q (q .y);
       t = q .t;
     }
 

@@ -24,7 +24,7 @@ use Rattle.sheet.specs.Ranges.{records-listed}
 use Rattle.trace.specs.Lines.{put}
 use Rattle.machine.specs.Machine.{Machine}
 use Rattle.machine.specs.Calls.{ifEmpty, Call, onList, listsAfter, perform}
-use Rattle.machine.specs.Steps.{operandOf, callOf, nextOf, recordOf, recordNow, itsCall, itsNext, callNow, nextNow, lineNow, movedOn}
+use Rattle.machine.specs.Steps.{itsOperand, callOf, nextOf, recordOf, recordNow, itsCall, itsNext, callNow, nextNow, lineNow, movedOn}
 use Rattle.machine_laws.specs.TurnCases.{Then}
 use Rattle.run_laws.specs.OnTables.{Carried, carriedOut}
 use Rattle.run_laws.specs.PerformFollows.{FollowsRun, perform-follows}
@@ -61,16 +61,16 @@ module _ (bytes : List ℕ) (ok : accepted bytes ≡ true) (m : Machine) (u : Ru
   at = record-is bytes ok m u g
 
   call-is : callDue (dueIn c bytes u) ≡ callNow s m
-  unfolding recordGot callDue callNow resolved
+  unfolding recordGot callDue callNow resolved sheetOf
   call-is =
       test (eqb r 0)
       (λ z. rw (z, sym (ap (λ (n : ℕ). eqb n 0) at) ∙ z) refl)
       (λ z. rw (z, sym (ap (λ (n : ℕ). eqb n 0) at) ∙ z)
       (some-call bytes ok m u g r at (eqb-false r 0 z) most
-      ∙ ap (λ (q : Record). itsCall q l) (sym (listAfter bytes ok m u g r at (eqb-false r 0 z) most))))
+      ∙ ap (λ (q : Record). itsCall c q l) (sym (listAfter bytes ok m u g r at (eqb-false r 0 z) most))))
 
   next-is : (k : Machine) → perform c (callNow s m) m ≡ done k → dueIn c bytes u .next ≡ nextNow s m
-  unfolding recordGot callNow nextNow resolved nextOf callOf
+  unfolding recordGot callNow nextNow resolved nextOf callOf sheetOf
   next-is k e =
       test (eqb r 0)
       (λ z. rw (z, sym (ap (λ (n : ℕ). eqb n 0) at) ∙ z) refl)
@@ -78,14 +78,14 @@ module _ (bytes : List ℕ) (ok : accepted bytes ≡ true) (m : Machine) (u : Ru
       let n = eqb-false r 0 z in
       let q : Record = recordWith (c .processes) bytes r in
       let same : recordOf s (recordNow s m) ≡ q = listAfter bytes ok m u g r at n most in
-      let made : perform c (itsCall q l) m ≡ done k =
-      ap (λ (p : Record). perform c (itsCall p l) m) (sym same) ∙ (rw (sym (ap (λ (j : ℕ). eqb j 0) at) ∙ z) at e) in
+      let made : perform c (itsCall c q l) m ≡ done k =
+      ap (λ (p : Record). perform c (itsCall c p l) m) (sym same) ∙ (rw (sym (ap (λ (j : ℕ). eqb j 0) at) ∙ z) at e) in
       rw (z, sym (ap (λ (n : ℕ). eqb n 0) at) ∙ z)
       (some-next bytes ok m u g r at n most
-      (λ o. head-done c (operandOf l (q .x)) m k (ap (λ (call : Call). perform c call m) (sym (twelve q o)) ∙ made))
-      ∙ ap (λ (p : Record). itsNext p l) (sym same)))
+      (λ o. head-done c (itsOperand c q l (q .x)) m k (ap (λ (call : Call). perform c call m) (sym (twelve q o)) ∙ made))
+      ∙ ap (λ (p : Record). itsNext c p l) (sym same)))
     where
-      twelve : (q : Record) → q .operation ≡ 12 → itsCall q l ≡ onList (ifEmpty (operandOf l (q .x)))
+      twelve : (q : Record) → q .operation ≡ 12 → itsCall c q l ≡ onList (ifEmpty (itsOperand c q l (q .x)))
       twelve q o = rw o
 
   -- ---- what it leaves

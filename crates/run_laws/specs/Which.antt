@@ -2,6 +2,7 @@
 use Prim.Native.Nat.{ℕ, _≤_}
 use mathlib.Core.Path.{_≡_, sym, _∙_}
 use mathlib.Core.Logic.{_≢_}
+use mathlib.Core.Bool.{true, false}
 use mathlib.Core.List.{List}
 use native.Mathlib.Omega.{arith}
 use lib.Dec.{eqb}
@@ -14,19 +15,26 @@ use Rattle.sheet.specs.Accepted.{operandBase}
 use Rattle.machine.specs.Calls.{onSet, hold, passivate, wait, cancel, activate, ifEmpty, finish, Call, onList, accum}
 use Rattle.machine.specs.Steps.{callOf}
 use Rattle.run_laws.specs.OnTables.{operandWith}
-use Rattle.run_laws.specs.Run.{resolved, callDue}
+use Rattle.run_laws.specs.Run.{recordOperand, resolved, callDue}
 
 module _ (c : Counts) (links : List ℕ) (f : ℕ) (q : Record) where
+  -- what x and y mean where the operation takes no process, and where it takes one
   abbrev x : ℕ
-  x = operandWith c links f (q .x)
+  x = operandWith c false links f (q .x)
 
   abbrev y : ℕ
-  y = operandWith c links f (q .y)
+  y = operandWith c false links f (q .y)
+
+  abbrev x-process : ℕ
+  x-process = operandWith c true links f (q .x)
+
+  abbrev y-process : ℕ
+  y-process = operandWith c true links f (q .y)
 
   abbrev due : Call
   due = callDue (resolved c links f q)
 
-  some : (n : ℕ) → q .operation ≡ n → n ≢ 0 → due ≡ callOf q x y
+  some : (n : ℕ) → q .operation ≡ n → n ≢ 0 → due ≡ callOf q (recordOperand c links f q (q .x)) (recordOperand c links f q (q .y))
   unfolding callDue resolved callOf
   some n e z = rw (ne-eqb (q .operation) 0 (λ o. z (sym e ∙ o)))
 
@@ -66,12 +74,13 @@ module _ (c : Counts) (links : List ℕ) (f : ℕ) (q : Record) where
   unfolding callOf
   call-8 e = some 8 e (λ z. omega arith) ∙ (rw e)
 
-  pub call-9 : q .operation ≡ 9 → due ≡ onList (cancel x)
+  pub call-9 : q .operation ≡ 9 → due ≡ onList (cancel x-process)
   unfolding callOf
   call-9 e = some 9 e (λ z. omega arith) ∙ (rw e)
 
   -- 10 and 11
-  pub call-timed : 10 ≤ q .operation → q .operation ≤ 11 → due ≡ onList (activate (eqb (q .operation) 11) (q .clause) x y (q .t))
+  pub call-timed : 10 ≤ q .operation → q .operation ≤ 11
+      → due ≡ onList (activate (eqb (q .operation) 11) (q .clause) x-process y-process (q .t))
   unfolding callOf
   call-timed l m =
       decide (q .operation) 10

@@ -15,7 +15,7 @@ use simulation::steps::cancel;
 use simulation::steps::hold_now;
 use simulation::steps::wait;
 ghost use mathlib.Core.Path.{_≡_};
-ghost use mathlib.Core.Bool.{false};
+ghost use mathlib.Core.Bool.{true, false};
 ghost use Prim.Native.Nat.{_+_, _*_, _≤_};
 ghost use lib.IntN.{pos};
 ghost use lib.ListN.{length};
@@ -59,11 +59,11 @@ pub(crate) fn wait_of(
 ) -> Answer
     requires { ⌜ Readable c (now sheet) i (now links) f (recordFrom (now sheet) i .y) ⌝ }
     requires { ⌜ Takeable c (now axis) (now times) ⌝ }
-    ensures { λ r. ⌜ WaitMade c (waitStep c (operandWith c (now (links .entry)) f (recordFrom (now (sheet .entry)) i .y))
+    ensures { λ r. ⌜ WaitMade c (waitStep c (operandWith c false (now (links .entry)) f (recordFrom (now (sheet .entry)) i .y))
         (now (links .entry)) (sqs (now (axis .entry)) (now (times .entry)))) (now (links .exit)) (now (axis .exit)) (now (times .exit))
         r ⌝ }
 {
-    let y = y_of(c, sheet, i, links, f);
+    let y = y_of(c, sheet, i, links, f, false);
     wait(c, links, axis, times, y)
 }
 
@@ -78,10 +78,10 @@ pub(crate) fn cancel_of(
 ) -> Answer
     requires { ⌜ Readable c (now sheet) i (now links) f (recordFrom (now sheet) i .x) ⌝ }
     requires { ⌜ Judged c (now axis) ⌝ }
-    ensures { λ r. ⌜ Answers (half c) (cancelStep c (operandWith c (now (links .entry)) f (recordFrom (now (sheet .entry)) i .x))
+    ensures { λ r. ⌜ Answers (half c) (cancelStep c (operandWith c true (now (links .entry)) f (recordFrom (now (sheet .entry)) i .x))
         (sqs (now (axis .entry)) (now (times .entry)))) (now (axis .exit)) (now (times .exit)) r ⌝ }
 {
-    let x = x_of(c, sheet, i, links, f);
+    let x = x_of(c, sheet, i, links, f, true);
     cancel(c, axis, times, x)
 }
 
@@ -106,10 +106,10 @@ pub(crate) fn direct_of(
     requires { ⌜ Readable c (now sheet) i (now links) f (recordFrom (now sheet) i .x) ⌝ }
     requires { ⌜ Judged c (now axis) ⌝ }
     requires { ⌜ Noticed (half c) f time (now axis) (now times) ⌝ }
-    ensures { λ r. ⌜ Answers (half c) (timedStep c false 0 (operandWith c (now (links .entry)) f (recordFrom (now (sheet .entry)) i .x)) 0
+    ensures { λ r. ⌜ Answers (half c) (timedStep c false 0 (operandWith c true (now (links .entry)) f (recordFrom (now (sheet .entry)) i .x)) 0
         (pos 0) (now (marks .entry)) (sqs (now (axis .entry)) (now (times .entry)))) (now (axis .exit)) (now (times .exit)) r ⌝ }
 {
-    let x = x_of(c, sheet, i, links, f);
+    let x = x_of(c, sheet, i, links, f, true);
     activate_now(c, axis, times, marks, f, time, x)
 }
 
@@ -128,11 +128,11 @@ pub(crate) fn delayed_of(
     requires { ⌜ Readable c (now sheet) i (now links) f (recordFrom (now sheet) i .x) ⌝ }
     requires { ⌜ Judged c (now axis) ⌝ }
     requires { ⌜ Noticed (half c) f time (now axis) (now times) ⌝ }
-    ensures { λ r. ⌜ Answers (half c) (timedStep c false 2 (operandWith c (now (links .entry)) f (recordFrom (now (sheet .entry)) i .x)) 0
+    ensures { λ r. ⌜ Answers (half c) (timedStep c false 2 (operandWith c true (now (links .entry)) f (recordFrom (now (sheet .entry)) i .x)) 0
         (recordFrom (now (sheet .entry)) i .t) (now (marks .entry)) (sqs (now (axis .entry)) (now (times .entry)))) (now (axis .exit))
         (now (times .exit)) r ⌝ }
 {
-    let x = x_of(c, sheet, i, links, f);
+    let x = x_of(c, sheet, i, links, f, true);
     let t = t_at(sheet, i);
     activate_after(c, axis, times, marks, f, time, x, t)
 }
@@ -153,12 +153,12 @@ pub(crate) fn timed_of(
     requires { ⌜ Readable c (now sheet) i (now links) f (recordFrom (now sheet) i .y) ⌝ }
     requires { ⌜ Judged c (now axis) ⌝ }
     ensures { λ r. ⌜ Answers (half c) (timedStep c again (recordFrom (now (sheet .entry)) i .clause)
-        (operandWith c (now (links .entry)) f (recordFrom (now (sheet .entry)) i .x))
-        (operandWith c (now (links .entry)) f (recordFrom (now (sheet .entry)) i .y)) (recordFrom (now (sheet .entry)) i .t)
+        (operandWith c true (now (links .entry)) f (recordFrom (now (sheet .entry)) i .x))
+        (operandWith c true (now (links .entry)) f (recordFrom (now (sheet .entry)) i .y)) (recordFrom (now (sheet .entry)) i .t)
         (now (marks .entry)) (sqs (now (axis .entry)) (now (times .entry)))) (now (axis .exit)) (now (times .exit)) r ⌝ }
 {
-    let x = x_of(c, sheet, i, links, f);
-    let y = y_of(c, sheet, i, links, f);
+    let x = x_of(c, sheet, i, links, f, true);
+    let y = y_of(c, sheet, i, links, f, true);
     let k = wide_clause(clause_at(sheet, i));
     let t = t_at(sheet, i);
     activate(c, axis, times, marks, again, k, x, y, t)

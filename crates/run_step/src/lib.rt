@@ -2,6 +2,7 @@
 // is written. Core functions: the caller knows that the tables were judged.
 pub mod apart;
 mod arms;
+mod members;
 pub mod perform;
 pub mod reading;
 mod set_arms;

@@ -1,4 +1,5 @@
 // Reading a run's tables: current's place, time and record, and the operands of a record.
+use crate::members::member;
 use model::Counts;
 use ring::wide;
 use sheet::records::CURRENT;
@@ -6,7 +7,6 @@ use sheet::records::next_at;
 use sheet::records::record_offset;
 use sheet::records::x_at;
 use sheet::records::y_at;
-use simset::procedures::link_or;
 use simulation_axis::first;
 use simulation_axis::time_at;
 ghost use mathlib.Core.Path.{_≡_};
@@ -81,11 +81,11 @@ pub fn next_of(sheet: &[u8], processes: u32, r: u32) -> u32
     next_at(sheet, record_offset(processes, r))
 }
 
-// The linkage that an operand stands for; f is current's place.
-pub(crate) fn operand(c: Counts, links: &[u32], f: u32, v: u32) -> u32
+// The linkage that an operand stands for; f is current's place, and takes, where the operation takes a process.
+pub(crate) fn operand(c: Counts, links: &[u32], f: u32, v: u32, takes: bool) -> u32
     requires { ⌜ Resolvable c (now links) f ⌝ }
     requires { ⌜ isOperand c v ≡ true ⌝ }
-    ensures { λ r. ⌜ r ≡ operandWith c (now (links .entry)) f v ⌝ }
+    ensures { λ r. ⌜ r ≡ operandWith c takes (now (links .entry)) f v ⌝ }
 {
     if wide(v) <= c.total() {
         return v;
@@ -94,20 +94,20 @@ pub(crate) fn operand(c: Counts, links: &[u32], f: u32, v: u32) -> u32
         return c.heads + f;
     }
     let h = wide(v - CURRENT);
-    link_or(c.heads, links[h])
+    member(c, links, h, takes)
 }
 
 // What x, and y, stand for in the record whose bytes begin at i.
-pub(crate) fn x_of(c: Counts, sheet: &[u8], i: usize, links: &[u32], f: u32) -> u32
+pub(crate) fn x_of(c: Counts, sheet: &[u8], i: usize, links: &[u32], f: u32, takes: bool) -> u32
     requires { ⌜ Readable c (now sheet) i (now links) f (recordFrom (now sheet) i .x) ⌝ }
-    ensures { λ r. ⌜ r ≡ operandWith c (now (links .entry)) f (recordFrom (now (sheet .entry)) i .x) ⌝ }
+    ensures { λ r. ⌜ r ≡ operandWith c takes (now (links .entry)) f (recordFrom (now (sheet .entry)) i .x) ⌝ }
 {
-    operand(c, links, f, x_at(sheet, i))
+    operand(c, links, f, x_at(sheet, i), takes)
 }
 
-pub(crate) fn y_of(c: Counts, sheet: &[u8], i: usize, links: &[u32], f: u32) -> u32
+pub(crate) fn y_of(c: Counts, sheet: &[u8], i: usize, links: &[u32], f: u32, takes: bool) -> u32
     requires { ⌜ Readable c (now sheet) i (now links) f (recordFrom (now sheet) i .y) ⌝ }
-    ensures { λ r. ⌜ r ≡ operandWith c (now (links .entry)) f (recordFrom (now (sheet .entry)) i .y) ⌝ }
+    ensures { λ r. ⌜ r ≡ operandWith c takes (now (links .entry)) f (recordFrom (now (sheet .entry)) i .y) ⌝ }
 {
-    operand(c, links, f, y_at(sheet, i))
+    operand(c, links, f, y_at(sheet, i), takes)
 }

@@ -8,6 +8,7 @@ use simset::steps::follow;
 use simset::steps::into;
 use simset::steps::out;
 use simset::steps::precede;
+ghost use mathlib.Core.Bool.{false};
 ghost use Prim.Native.Nat.{_+_};
 ghost use Rattle.model.specs.Counts.{total};
 ghost use Rattle.simset_laws.specs.Calls.{outStep, followStep, precedeStep, intoStep, clearStep};
@@ -18,54 +19,54 @@ ghost use Rattle.run_laws.specs.Needs.{Readable};
 
 pub(crate) fn out_of(c: Counts, sheet: &[u8], i: usize, links: &mut [u32], f: u32) -> Answer
     requires { ⌜ Readable c (now sheet) i (now links) f (recordFrom (now sheet) i .x) ⌝ }
-    ensures { λ r. ⌜ Moved (total c + 1) (outStep c (operandWith c (now (links .entry)) f (recordFrom (now (sheet .entry)) i .x))
+    ensures { λ r. ⌜ Moved (total c + 1) (outStep c (operandWith c false (now (links .entry)) f (recordFrom (now (sheet .entry)) i .x))
         (now (links .entry))) (record { links = now (links .exit); answer = r }) ⌝ }
 {
-    let x = x_of(c, sheet, i, links, f);
+    let x = x_of(c, sheet, i, links, f, false);
     out(c, links, x)
 }
 
 pub(crate) fn follow_of(c: Counts, sheet: &[u8], i: usize, links: &mut [u32], f: u32) -> Answer
     requires { ⌜ Readable c (now sheet) i (now links) f (recordFrom (now sheet) i .x) ⌝ }
     requires { ⌜ Readable c (now sheet) i (now links) f (recordFrom (now sheet) i .y) ⌝ }
-    ensures { λ r. ⌜ Moved (total c + 1) (followStep c (operandWith c (now (links .entry)) f (recordFrom (now (sheet .entry)) i .x))
-        (operandWith c (now (links .entry)) f (recordFrom (now (sheet .entry)) i .y)) (now (links .entry)))
+    ensures { λ r. ⌜ Moved (total c + 1) (followStep c (operandWith c false (now (links .entry)) f (recordFrom (now (sheet .entry)) i .x))
+        (operandWith c false (now (links .entry)) f (recordFrom (now (sheet .entry)) i .y)) (now (links .entry)))
         (record { links = now (links .exit); answer = r }) ⌝ }
 {
-    let x = x_of(c, sheet, i, links, f);
-    let y = y_of(c, sheet, i, links, f);
+    let x = x_of(c, sheet, i, links, f, false);
+    let y = y_of(c, sheet, i, links, f, false);
     follow(c, links, x, y)
 }
 
 pub(crate) fn precede_of(c: Counts, sheet: &[u8], i: usize, links: &mut [u32], f: u32) -> Answer
     requires { ⌜ Readable c (now sheet) i (now links) f (recordFrom (now sheet) i .x) ⌝ }
     requires { ⌜ Readable c (now sheet) i (now links) f (recordFrom (now sheet) i .y) ⌝ }
-    ensures { λ r. ⌜ Moved (total c + 1) (precedeStep c (operandWith c (now (links .entry)) f (recordFrom (now (sheet .entry)) i .x))
-        (operandWith c (now (links .entry)) f (recordFrom (now (sheet .entry)) i .y)) (now (links .entry)))
+    ensures { λ r. ⌜ Moved (total c + 1) (precedeStep c (operandWith c false (now (links .entry)) f (recordFrom (now (sheet .entry)) i .x))
+        (operandWith c false (now (links .entry)) f (recordFrom (now (sheet .entry)) i .y)) (now (links .entry)))
         (record { links = now (links .exit); answer = r }) ⌝ }
 {
-    let x = x_of(c, sheet, i, links, f);
-    let y = y_of(c, sheet, i, links, f);
+    let x = x_of(c, sheet, i, links, f, false);
+    let y = y_of(c, sheet, i, links, f, false);
     precede(c, links, x, y)
 }
 
 pub(crate) fn into_of(c: Counts, sheet: &[u8], i: usize, links: &mut [u32], f: u32) -> Answer
     requires { ⌜ Readable c (now sheet) i (now links) f (recordFrom (now sheet) i .x) ⌝ }
     requires { ⌜ Readable c (now sheet) i (now links) f (recordFrom (now sheet) i .y) ⌝ }
-    ensures { λ r. ⌜ Moved (total c + 1) (intoStep c (operandWith c (now (links .entry)) f (recordFrom (now (sheet .entry)) i .x))
-        (operandWith c (now (links .entry)) f (recordFrom (now (sheet .entry)) i .y)) (now (links .entry)))
+    ensures { λ r. ⌜ Moved (total c + 1) (intoStep c (operandWith c false (now (links .entry)) f (recordFrom (now (sheet .entry)) i .x))
+        (operandWith c false (now (links .entry)) f (recordFrom (now (sheet .entry)) i .y)) (now (links .entry)))
         (record { links = now (links .exit); answer = r }) ⌝ }
 {
-    let x = x_of(c, sheet, i, links, f);
-    let y = y_of(c, sheet, i, links, f);
+    let x = x_of(c, sheet, i, links, f, false);
+    let y = y_of(c, sheet, i, links, f, false);
     into(c, links, x, y)
 }
 
 pub(crate) fn clear_of(c: Counts, sheet: &[u8], i: usize, links: &mut [u32], f: u32) -> Answer
     requires { ⌜ Readable c (now sheet) i (now links) f (recordFrom (now sheet) i .x) ⌝ }
-    ensures { λ r. ⌜ Moved (total c + 1) (clearStep c (operandWith c (now (links .entry)) f (recordFrom (now (sheet .entry)) i .x))
+    ensures { λ r. ⌜ Moved (total c + 1) (clearStep c (operandWith c false (now (links .entry)) f (recordFrom (now (sheet .entry)) i .x))
         (now (links .entry))) (record { links = now (links .exit); answer = r }) ⌝ }
 {
-    let x = x_of(c, sheet, i, links, f);
+    let x = x_of(c, sheet, i, links, f, false);
     clear(c, links, x)
 }

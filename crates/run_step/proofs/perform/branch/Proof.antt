@@ -45,10 +45,10 @@ y-at-requires : tie.Need-y-at-requires
 y-at-requires c κs = start (search) .pre .0 .inside
 
 returns-2 : tie.Need-returns-2
-returns-2 c = branch-to _ (recordFrom (start (search) .args .sheet .now) (start (search) .args .i)) _ _ _ (after-x-at (search) .x-at .ensures ∙ operand-low _ _ _ _ (start (search) .pre .0 .resolvable) (omega (arith, after-x-at (search) .x-at .ensures, head-in (start (search) .args .c) (after-x-at (search) .x-at .result) (passed (after-is-head (search) .is-head .result) _ (after-is-head (search) .is-head .ensures) (else1 (search) .if1 .left))))) (passed _ _ (after-is-head (search) .is-head .ensures) (else1 (search) .if1 .left)) _ (after-wide (search) .wide .ensures) (c .before .if2 .taken) _ (c .y-at .ensures)
+returns-2 c = branch-to _ (recordFrom (start (search) .args .sheet .now) (start (search) .args .i)) _ _ _ (after-x-at (search) .x-at .ensures ∙ operand-low _ _ _ _ (start (search) .pre .0 .resolvable) _ (omega (arith, after-x-at (search) .x-at .ensures, head-in (start (search) .args .c) (after-x-at (search) .x-at .result) (passed (after-is-head (search) .is-head .result) _ (after-is-head (search) .is-head .ensures) (else1 (search) .if1 .left))))) (passed _ _ (after-is-head (search) .is-head .ensures) (else1 (search) .if1 .left)) _ (after-wide (search) .wide .ensures) (c .before .if2 .taken) _ (c .y-at .ensures)
 
 returns-3 : tie.Need-returns-3
-returns-3 c = branch-on _ (recordFrom (start (search) .args .sheet .now) (start (search) .args .i)) _ _ _ (after-x-at (search) .x-at .ensures ∙ operand-low _ _ _ _ (start (search) .pre .0 .resolvable) (omega (arith, after-x-at (search) .x-at .ensures, head-in (start (search) .args .c) (after-x-at (search) .x-at .result) (passed (after-is-head (search) .is-head .result) _ (after-is-head (search) .is-head .ensures) (else1 (search) .if1 .left))))) (passed _ _ (after-is-head (search) .is-head .ensures) (else1 (search) .if1 .left)) _ (c .before .before .wide .ensures) (c .if2 .left)
+returns-3 c = branch-on _ (recordFrom (start (search) .args .sheet .now) (start (search) .args .i)) _ _ _ (after-x-at (search) .x-at .ensures ∙ operand-low _ _ _ _ (start (search) .pre .0 .resolvable) _ (omega (arith, after-x-at (search) .x-at .ensures, head-in (start (search) .args .c) (after-x-at (search) .x-at .result) (passed (after-is-head (search) .is-head .result) _ (after-is-head (search) .is-head .ensures) (else1 (search) .if1 .left))))) (passed _ _ (after-is-head (search) .is-head .ensures) (else1 (search) .if1 .left)) _ (c .before .before .wide .ensures) (c .if2 .left)
 
 pub branch-spec : {M : Type 1} → statement M
 branch-spec =

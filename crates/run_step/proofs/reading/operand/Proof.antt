@@ -1,4 +1,4 @@
-use Rattle.run_laws.specs.Reads.{operand-low, operand-current, above, head-within, operand-first}
+use Rattle.run_laws.specs.Reads.{operand-low, operand-current, above, head-within, operand-member}
 use borrow.Author.Needs.{needs}
 use native.Mathlib.Omega.{arith}
 use Rattle.run_step.proofs.reading.operand.Statement.{statement}
@@ -27,13 +27,13 @@ abbrev else2 : tie.Else2 → tie.Else2
 else2 x = x
 
 returns : tie.Need-returns
-returns c = operand-low _ _ _ _ (start (search) .pre .0) (omega (arith, c .if1 .taken, c .before .before .wide .ensures, c .before .total .ensures))
+returns c = operand-low _ _ _ _ (start (search) .pre .0) _ (omega (arith, c .if1 .taken, c .before .before .wide .ensures, c .before .total .ensures))
 
 add-result : tie.Need-add-result
 add-result c = omega (arith, start (search) .pre .0 .allowed .heads-in, start (search) .pre .0 .allowed .processes-in, start (search) .pre .0 .place-in)
 
 returns-2 : tie.Need-returns-2
-returns-2 c = operand-current _ _ _ _ (start (search) .pre .0) (c .before .if2 .taken)
+returns-2 c = operand-current _ _ _ _ (start (search) .pre .0) _ (c .before .if2 .taken)
 
 sub-wide : tie.Need-sub-wide
 sub-wide c = above _ _ _ _ (start (search) .pre .0) (start (search) .pre .1) (omega (arith, c .before .if1 .left, c .before .before .total .ensures, after-wide (search) .wide .ensures)) (c .if2 .left) .0
@@ -41,17 +41,11 @@ sub-wide c = above _ _ _ _ (start (search) .pre .0) (start (search) .pre .1) (om
 wide-requires-2 : tie.Need-wide-requires-2
 wide-requires-2 c κs = search needs
 
-mul-link-or : tie.Need-mul-link-or
-mul-link-or c = search needs
-
-shared-slice-read-link-or : tie.Need-shared-slice-read-link-or
-shared-slice-read-link-or c = head-within _ _ _ _ (start (search) .pre .0) (start (search) .pre .1) (omega (arith, else1 (search) .if1 .left, after-total (search) .total .ensures, after-wide (search) .wide .ensures)) (c .before .before .if2 .left) _ (c .before .wide2 .ensures)
-
-link-or-requires : tie.Need-link-or-requires
-link-or-requires c κs = search needs
+member-requires : tie.Need-member-requires
+member-requires c κs = (start (search) .pre .0 .sound, head-within _ _ _ _ (start (search) .pre .0) (start (search) .pre .1) (omega (arith, c .before .before .if1 .left, after-total (search) .total .ensures, after-wide (search) .wide .ensures)) (c .before .if2 .left) _ (c .wide2 .ensures))
 
 returns-3 : tie.Need-returns-3
-returns-3 c = operand-first _ _ _ _ (start (search) .pre .0) (start (search) .pre .1) (omega (arith, else1 (search) .if1 .left, after-total (search) .total .ensures, after-wide (search) .wide .ensures)) (else2 (search) .if2 .left) _ (c .before .before .wide2 .ensures) _ (c .link-or .ensures)
+returns-3 c = operand-member _ _ _ _ (start (search) .pre .0) (start (search) .pre .1) (omega (arith, else1 (search) .if1 .left, after-total (search) .total .ensures, after-wide (search) .wide .ensures)) (else2 (search) .if2 .left) _ (c .before .wide2 .ensures) _ _ (c .member .ensures)
 
 pub operand-spec : {M : Type 1} → statement M
 operand-spec =
@@ -64,7 +58,5 @@ operand-spec =
     returns-2
     sub-wide
     wide-requires-2
-    mul-link-or
-    shared-slice-read-link-or
-    link-or-requires
+    member-requires
     returns-3)

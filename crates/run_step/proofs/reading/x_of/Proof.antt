@@ -13,7 +13,7 @@ operand-requires : tie.Need-operand-requires
 operand-requires c κs = (c .before .before .before .pre .resolvable, subst (λ (v : ℕ). isOperand (c .before .before .before .args .c) v ≡ true) (sym (c .x-at .ensures)) (c .before .before .before .pre .operand))
 
 returns : tie.Need-returns
-returns c = c .operand .ensures ∙ ap (operandWith (c .before .before .before .before .args .c) (c .before .before .before .before .args .links .now) (c .before .before .before .before .args .f)) (c .before .x-at .ensures)
+returns c = c .operand .ensures ∙ ap (operandWith (c .before .before .before .before .args .c) (c .before .before .before .before .args .takes) (c .before .before .before .before .args .links .now) (c .before .before .before .before .args .f)) (c .before .x-at .ensures)
 
 pub x-of-spec : {M : Type 1} → statement M
 x-of-spec = tie.close (tie.spec x-at-requires operand-requires returns)

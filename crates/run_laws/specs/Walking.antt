@@ -1,0 +1,109 @@
+-- The walk along a ring to its first process: what the loop keeps, and that it finds what the list says.
+use Prim.Native.Nat.{ℕ, zero, suc, _+_, _-_, _<_, _≤_}
+use mathlib.Core.Path.{_≡_, refl, sym, ap, _∙_}
+use mathlib.Core.Logic.{inl, inr}
+use mathlib.Core.Bool.{true, false}
+use mathlib.Core.List.{List, [], _∷_}
+use native.Mathlib.Omega.{arith}
+use lib.ListN.{length, getD}
+use borrow.Author.Tests.{le-leb, lt-leb, le-ltb, leb-true, leb-false}
+use Rattle.ring_laws.specs.Lists.{In, test}
+use Rattle.ring_laws.specs.Chain.{Chain}
+use Rattle.ring_laws.specs.Rings.{Head, on-place}
+use Rattle.ring_laws.specs.Stores.{sucs, pres, suc-at}
+use Rattle.ring_laws.specs.Spell.{spells-few}
+use Rattle.ring_laws.specs.Table.{Sound}
+use Rattle.model.specs.declared.Counts.{Counts}
+use Rattle.model.specs.Counts.{isProcess, total}
+use Rattle.model_laws.specs.Tables.{setHead, membersOf, SpellsSets}
+use Rattle.machine.specs.Operands.{firstProcess}
+use Rattle.run_laws.specs.OnTables.{processFrom, processAt}
+
+-- ---- the clauses of the walk
+
+module _ (c : Counts) (links : List ℕ) where
+  from-zero : (k i : ℕ) → k ≡ 0 → processFrom c links k i ≡ 0
+  unfolding processFrom
+  from-zero zero i e = refl
+  from-zero (suc k) i e = omega arith
+
+  from-process : (k i : ℕ) → 0 < k → isProcess c i ≡ true → processFrom c links k i ≡ i
+  unfolding processFrom
+  from-process zero i l e = omega arith
+  from-process (suc k) i l e = rw e
+
+  from-head : (k i : ℕ) → i ≤ c .heads → processFrom c links k i ≡ 0
+  unfolding processFrom
+  from-head zero i l = refl
+  from-head (suc k) i l = rw (le-ltb (c .heads) i l, le-leb i (c .heads) l)
+
+  from-on : (k i : ℕ) → isProcess c i ≡ false → c .heads < i → processFrom c links (suc k) i ≡ processFrom c links k (getD links i 0)
+  unfolding processFrom
+  from-on k i e l = rw (e, lt-leb i (c .heads) l)
+
+-- ---- the loop, begun at v: it is at i, with k places left
+
+pub record Walking (c : Counts) (links : List ℕ) (v k i : ℕ) : Type 0 where
+  pub at : i < total c + 1
+  pub rest : processFrom c links k i ≡ processFrom c links (total c + 1) v
+
+module _ (c : Counts) (links : List ℕ) (v : ℕ) where
+  pub walk-start : v < total c + 1 → (k : ℕ) → k ≡ total c + 1 → Walking c links v k v
+  walk-start l k e = record { at = l; rest = ap (λ (n : ℕ). processFrom c links n v) e }
+
+  module _ (k i : ℕ) (w : Walking c links v k i) where
+    pub walk-out : k ≤ 0 → 0 ≡ processFrom c links (total c + 1) v
+    walk-out l = sym (from-zero c links k i (omega arith)) ∙ w .rest
+
+    module _ (some : 0 < k) where
+      pub walk-found : isProcess c i ≡ true → i ≡ processFrom c links (total c + 1) v
+      walk-found e = sym (from-process c links k i some e) ∙ w .rest
+
+      pub walk-none : i ≤ c .heads → 0 ≡ processFrom c links (total c + 1) v
+      walk-none l = sym (from-head c links k i l) ∙ w .rest
+
+      pub walk-on : Sound (total c + 1) links → isProcess c i ≡ false → c .heads < i → (j : ℕ) → j ≡ getD links i 0
+          → Walking c links v (k - 1) j
+      walk-on s e l j is =
+          record {
+            at = omega (arith, s .inside i);
+            rest = ap (processFrom c links (k - 1)) is ∙ sym (from-on c links (k - 1) i e l)
+                ∙ ap (λ (n : ℕ). processFrom c links n i) one-more
+                ∙ w .rest;
+          }
+        where
+          one-more : suc (k - 1) ≡ k
+          one-more = omega arith
+
+-- where the first place is a process there is no walk
+pub no-walk : (c : Counts) (links : List ℕ) (v : ℕ) → isProcess c v ≡ true → v ≡ processFrom c links (total c + 1) v
+no-walk c links v e = sym (from-process c links (total c + 1) v (omega arith) e)
+
+-- ---- the walk finds what the list says
+
+module _ (c : Counts) (m : ℕ) (t : List ℕ) (h : ℕ) (head : h ≤ c .heads) where
+  along : (a : ℕ) (l : List ℕ) (k : ℕ) → Chain (sucs m t) (pres m t) a l h → ((y : ℕ) → In y (a ∷ l) → y < m)
+      → ((y : ℕ) → In y l → c .heads < y) → length l ≤ k
+      → processFrom c t k (getD t a 0) ≡ firstProcess c l
+  along a [] k ch b f few =
+      ap (processFrom c t k) (sym (suc-at m t a (b a (inl refl))) ∙ ch .next) ∙ from-head c t k h head
+  along a (z ∷ l) zero ch b f few = omega arith
+  along a (z ∷ l) (suc k) ch b f few =
+      let e : getD t a 0 ≡ z = sym (suc-at m t a (b a (inl refl))) ∙ ch .0 .next in
+      ap (processFrom c t (suc k)) e
+      ∙ test (isProcess c z)
+      (λ p. rw p (from-process c t (suc k) z (omega arith) p))
+      (λ p. rw p (from-on c t k z p (f z (inl refl))
+      ∙ along z l k (ch .1) (λ y i. b y (inr i)) (λ y i. f y (inr i)) (omega arith)))
+
+-- on links that spell the sets, the first process along the ring of h is the first process of its list
+module _ (c : Counts) (sets : List (List ℕ)) (t : List ℕ) (s : SpellsSets (total c + 1) (c .heads) sets t) where
+  abbrev m : ℕ
+  m = total c + 1
+
+  pub process-of : (h : ℕ) → Head m (setHead (c .heads)) h → processAt c t h ≡ firstProcess c (membersOf sets h)
+  process-of h a =
+      along c m t h (leb-true h (c .heads) (a .is)) h (membersOf sets h) m (s .spelled .rings .ring h a)
+      (λ y i. on-place m (setHead (c .heads)) (membersOf sets) (sucs m t) (pres m t) (s .spelled .rings) h y a i .1)
+      (λ y i. leb-false y (c .heads) (s .spelled .rings .only h y a i .isn't))
+      (spells-few m (setHead (c .heads)) (membersOf sets) t (s .spelled) h a)
