@@ -34,6 +34,8 @@ use Rattle.run_laws.specs.declared.Effect.{Effect}
 use Rattle.run_laws.specs.declared.Effect.the-variants.{Stays, Jumps, Moves}
 use Rattle.run_laws.specs.Run.{recordOperand, resolved, callDue}
 use Rattle.run_laws.specs.Performed.{listEffect, callEffect, effectOf, unlessRefused, branched, performed}
+use Rattle.run_laws.specs.Walking.{at-hand}
+use Rattle.run_laws.specs.Tried.{atHand}
 use Rattle.run_laws.specs.Which as which
 
 direct : (c : Counts) (x y : ℕ) (t : ℤ) (marks : List ℕ) (s : Sqs)
@@ -165,19 +167,19 @@ module _ (c : Counts) (q : Record) (f : ℕ) (links axis times marks : List ℕ)
           (which.call-timed c links f q lo hi) _
           (on-sqs (half c) links axis times marks a u r (λ m s. timedStep c (eqb (q .operation) 11) (q .clause) x-process y-process (q .t) m s) k) ev
 
-      -- 10 with no clause, which uses neither y nor t
-      pub arm-10 : q .operation ≡ 10 → q .clause ≡ 0 → Answers (half c) (timedStep c false 0 x-process 0 (pos 0) marks (sqs axis times)) a u r
-          → Axis
-      arm-10 e z k =
+      -- 10 where x is at hand; with no clause, which uses neither y nor t
+      pub arm-10 : q .operation ≡ 10 → q .clause ≡ 0 → atHand c q f links ≡ true
+          → Answers (half c) (timedStep c false 0 x 0 (pos 0) marks (sqs axis times)) a u r → Axis
+      arm-10 e z h k =
           arm-timed (omega arith) (omega arith)
-          (rw (e, z, ← (direct c x-process y-process (q .t) marks (sqs axis times))) k)
+          (rw (e, z, at-hand c links f (q .x) h, ← (direct c x y-process (q .t) marks (sqs axis times))) k)
 
-      -- 10 after a delay
-      pub arm-delay : q .operation ≡ 10 → q .clause ≡ 2 → Answers (half c) (timedStep c false 2 x-process 0 (q .t) marks (sqs axis times)) a u r
-          → Axis
-      arm-delay e z k =
+      -- and after a delay
+      pub arm-delay : q .operation ≡ 10 → q .clause ≡ 2 → atHand c q f links ≡ true
+          → Answers (half c) (timedStep c false 2 x 0 (q .t) marks (sqs axis times)) a u r → Axis
+      arm-delay e z h k =
           arm-timed (omega arith) (omega arith)
-          (rw (e, z, ← (delayed c x-process y-process (q .t) marks (sqs axis times))) k)
+          (rw (e, z, at-hand c links f (q .x) h, ← (delayed c x y-process (q .t) marks (sqs axis times))) k)
 
       -- finish, at position 0
       pub arm-0 : (ms : List ℕ) → q .operation ≡ 0 → FinishMade c (finishStep c marks (sqs axis times)) a u ms r

@@ -13,6 +13,7 @@ pub mod Reads
 pub mod Which
 pub mod Tried
 pub mod Arms
+pub mod Soon
 pub mod Performing
 pub mod Standing
 pub mod StepIs

@@ -24,7 +24,7 @@ use Rattle.run_laws.specs.declared.Effect.the-variants.{Refused}
 use Rattle.run_laws.specs.declared.Pause.the-variants.{Refused as Stopped}
 use Rattle.run_laws.specs.Run.{RunTables, runOf, On, recordGot, endsNow, RanOn, stoppedOn, turnsOn}
 use Rattle.run_laws.specs.Performed.{Performed, performed, turnedBy}
-use Rattle.run_laws.specs.Tried.{tried, isApart, apart-0, made-of, not-apart}
+use Rattle.run_laws.specs.Tried.{tried, isApart, left-0, made-of, not-left}
 use Rattle.run_laws.specs.Paused.{Paused}
 use Rattle.run_laws.specs.Needs.{Performable}
 use Rattle.run_laws.specs.Reads.{got-end}
@@ -114,9 +114,9 @@ module _ (c : Counts) (bytes : List ℕ) (end stop n₀ : ℕ) (whole : RanOn) (
       where
         some : r ≢ 0
         some e =
-            let z = apart-0 (recordGot (c .processes) bytes r) (ap (λ (q : Record). q .operation)
+            let z = left-0 c (recordGot (c .processes) bytes r) f (u .model .links) (ap (λ (q : Record). q .operation)
             (sym (got-end (c .processes) bytes r e))) in
-            let y : true ≡ false = sym z ∙ not-apart c (recordGot (c .processes) bytes r) f (u .model) (u .words) p is m in
+            let y : true ≡ false = sym z ∙ not-left c (recordGot (c .processes) bytes r) f (u .model) (u .words) p is m in
             clash (sym y)
 
     pub stopped : (x : Refusal) → p .effect ≡ Refused x → (ps : List ℕ) → ps ≡ set (u .positions) f r

@@ -11,66 +11,87 @@ use borrow.Author.Tests.{ne-eqb, eqb-true, leb-true, not-true}
 use Rattle.ring_laws.specs.Lists.{if_then_else_, test, clash}
 use Rattle.ring_laws.specs.Tabulate.{has}
 use Rattle.model.specs.declared.Counts.{Counts}
-use Rattle.model.specs.Counts.{both}
+use Rattle.model.specs.Counts.{both, isProcess}
 use Rattle.model.specs.declared.answer.Answer.{Answer}
 use Rattle.model.specs.declared.answer.Answer.the-variants.{Done, Linkage, Number, Truth, Refused as NotDone}
 use Rattle.model_laws.specs.Tables.{Tables}
 use Rattle.simset_laws.specs.Procedures.{emptyOf}
+use Rattle.simset_laws.specs.Calls.{orNone}
 use Rattle.sheet.specs.declared.records.Record.{Record}
 use Rattle.sheet.specs.Operations.{lastOperation}
 use Rattle.sheet.specs.AllTo.{allTo, all-at}
 use Rattle.machine.specs.Calls.{Call}
-use Rattle.run_laws.specs.OnTables.{carriedOut}
+use Rattle.run_laws.specs.OnTables.{operandWith, carriedOut}
 use Rattle.run_laws.specs.declared.Effect.{Effect}
 use Rattle.run_laws.specs.declared.Effect.the-variants.{Stays, Jumps, Moves, Refused, Apart}
 use Rattle.run_laws.specs.Run.{resolved, callDue}
 use Rattle.run_laws.specs.Performed.{callEffect, stays-or-moves, effectOf, unlessRefused, Performed, performed}
 
--- out, into, hold, wait, if-empty and accum are made in a stretch,
+-- out, into, hold, wait, if-empty and accum are made in a stretch, whatever their operands are; others may be made apart
 abbrev pub madeHere : ℕ → Bool
 madeHere o = eqb o 1 || (eqb o 4 || (eqb o 6 || (eqb o 8 || (eqb o 12 || eqb o 13))))
 
--- and activate with no clause or after a delay
+unfoldable pub apart : Record → Bool
+apart q = not (madeHere (q .operation))
+
+-- activate with no clause or after a delay is made in a stretch too,
 abbrev pub madeSoon : ℕ → Bool
 madeSoon k = eqb k 0 || eqb k 2
 
-unfoldable pub apart : Record → Bool
-apart q = if eqb (q .operation) 10 then not (madeSoon (q .clause)) else not (madeHere (q .operation))
+-- where x with no walk is a process or none: no walk past links stands in a stretch
+abbrev pub atHand : Counts → Record → ℕ → List ℕ → Bool
+atHand c q f links = let x = operandWith c false links f (q .x) in orNone (isProcess c x) x
 
--- a call that is made apart is not made, and nothing has changed
+unfoldable pub left : Counts → Record → ℕ → List ℕ → Bool
+left c q f links = if eqb (q .operation) 10 then not (madeSoon (q .clause) && atHand c q f links) else apart q
+
+-- a call that is left is not made, and nothing has changed
 unfoldable pub tried : Counts → Record → ℕ → Tables → List ℤ → Performed
-tried c q f t w = if apart q then record { tables = t; words = w; effect = Apart } else performed c q f t w
+tried c q f t w = if left c q f (t .links) then record { tables = t; words = w; effect = Apart } else performed c q f t w
 
 -- ---- by the operation
 
-module _ (q : Record) where
-  pub here : (n : ℕ) → eqb n 10 ≡ false → madeHere n ≡ true → q .operation ≡ n → apart q ≡ false
-  unfolding apart
+module _ (c : Counts) (q : Record) (f : ℕ) (links : List ℕ) where
+  pub here : (n : ℕ) → eqb n 10 ≡ false → madeHere n ≡ true → q .operation ≡ n → left c q f links ≡ false
+  unfolding left apart
   here n t m e = rw (e, t, m)
 
-  pub here-soon : (k : ℕ) → madeSoon k ≡ true → q .operation ≡ 10 → q .clause ≡ k → apart q ≡ false
-  unfolding apart
-  here-soon k m e z = rw (e, z, m)
+  pub here-soon : (k : ℕ) → madeSoon k ≡ true → q .operation ≡ 10 → q .clause ≡ k → atHand c q f links ≡ true → left c q f links ≡ false
+  unfolding left
+  here-soon k m e z h = rw (e, z, m, h)
 
-  pub apart-0 : q .operation ≡ 0 → apart q ≡ true
-  unfolding apart
-  apart-0 e = rw e
+  pub left-far : q .operation ≡ 10 → atHand c q f links ≡ false → left c q f links ≡ true
+  unfolding left
+  left-far e h = rw (e, h) (never (madeSoon (q .clause)))
+    where
+      never : (b : Bool) → not (b && false) ≡ true
+      never true = refl
+      never false = refl
 
-  pub apart-10 : q .operation ≡ 10 → q .clause ≢ 2 → q .clause ≢ 0 → apart q ≡ true
-  unfolding apart
-  apart-10 e n z = rw (e, ne-eqb (q .clause) 2 n, ne-eqb (q .clause) 0 z)
+  pub left-10 : q .operation ≡ 10 → q .clause ≢ 2 → q .clause ≢ 0 → left c q f links ≡ true
+  unfolding left
+  left-10 e n z = rw (e, ne-eqb (q .clause) 2 n, ne-eqb (q .clause) 0 z)
 
-  pub apart-other : (o : ℕ) → o ≡ q .operation → o ≢ 1 → o ≢ 4 → o ≢ 6 → o ≢ 8 → o ≢ 10 → o ≢ 12 → o ≢ 13 → apart q ≡ true
-  unfolding apart
-  apart-other o e a b c d f g h =
-      rw (← e, ne-eqb o 1 a, ne-eqb o 4 b, ne-eqb o 6 c, ne-eqb o 8 d, ne-eqb o 10 f, ne-eqb o 12 g, ne-eqb o 13 h)
+  pub left-0 : q .operation ≡ 0 → left c q f links ≡ true
+  unfolding left apart
+  left-0 e = rw e
 
-  no-here : apart q ≡ true → madeHere (q .operation) ≡ false
-  unfolding apart
-  no-here a =
+  pub left-other : (o : ℕ) → o ≡ q .operation → o ≢ 1 → o ≢ 4 → o ≢ 6 → o ≢ 8 → o ≢ 10 → o ≢ 12 → o ≢ 13 → left c q f links ≡ true
+  unfolding left apart
+  left-other o e a b d k m g h =
+      rw (← e, ne-eqb o 1 a, ne-eqb o 4 b, ne-eqb o 6 d, ne-eqb o 8 k, ne-eqb o 10 m, ne-eqb o 12 g, ne-eqb o 13 h)
+
+  -- what is left may be made apart
+  left-apart-of : left c q f links ≡ true → apart q ≡ true
+  unfolding left apart
+  left-apart-of l =
       test (eqb (q .operation) 10)
-      (λ e. ap madeHere (eqb-true (q .operation) 10 e))
-      (λ e. not-true (madeHere (q .operation)) (rw e at a))
+      (λ e. ap (λ (o : ℕ). not (madeHere o)) (eqb-true (q .operation) 10 e))
+      (λ e. rw e at l)
+
+no-here : (q : Record) → apart q ≡ true → madeHere (q .operation) ≡ false
+unfolding apart
+no-here q a = not-true (madeHere (q .operation)) a
 
 -- of all operations, past those that are made in a stretch and the arms of those that are made apart, 10 and 11 are left
 abbrev armsApart : List ℕ
@@ -110,11 +131,11 @@ isApart (Refused r) = false
 isApart Apart = true
 
 module _ (c : Counts) (q : Record) (f : ℕ) (t : Tables) (w : List ℤ) where
-  pub tried-not : apart q ≡ true → record { tables = t; words = w; effect = Apart } ≡ tried c q f t w
+  pub tried-not : left c q f (t .links) ≡ true → record { tables = t; words = w; effect = Apart } ≡ tried c q f t w
   unfolding tried
   tried-not e = rw e
 
-  pub tried-made : apart q ≡ false → (o : Performed) → o ≡ performed c q f t w → o ≡ tried c q f t w
+  pub tried-made : left c q f (t .links) ≡ false → (o : Performed) → o ≡ performed c q f t w → o ≡ tried c q f t w
   unfolding tried
   tried-made e o eo = rw e eo
 
@@ -142,19 +163,19 @@ module _ (c : Counts) (q : Record) (f : ℕ) (t : Tables) (w : List ℤ) where
     told : isApart (o .effect) ≡ isApart (tried c q f t w .effect)
     told = ap (λ (p : Performed). isApart (p .effect)) is
 
-    pub not-apart : isApart (o .effect) ≡ false → apart q ≡ false
+    pub not-left : isApart (o .effect) ≡ false → left c q f (t .links) ≡ false
     unfolding tried
-    not-apart e = test (apart q) (λ a. let z : true ≡ false = sym (rw a at told) ∙ e in clash (sym z)) (λ a. a)
+    not-left e = test (left c q f (t .links)) (λ a. let z : true ≡ false = sym (rw a at told) ∙ e in clash (sym z)) (λ a. a)
 
     -- it was made here
     pub made-of : isApart (o .effect) ≡ false → o ≡ performed c q f t w
     unfolding tried
-    made-of e = rw (not-apart e) at is
+    made-of e = rw (not-left e) at is
 
     -- or it is left, with all as it was
     pub left-of : isApart (o .effect) ≡ true → (apart q ≡ true) × (o .tables ≡ t) × (o .words ≡ w)
     unfolding tried
     left-of e =
-        test (apart q)
-        (λ a. (a, ap (λ (p : Performed). p .tables) (rw a at is), ap (λ (p : Performed). p .words) (rw a at is)))
+        test (left c q f (t .links))
+        (λ a. (left-apart-of c q f (t .links) a, ap (λ (p : Performed). p .tables) (rw a at is), ap (λ (p : Performed). p .words) (rw a at is)))
         (λ a. let z : true ≡ false = sym e ∙ (rw a at told) ∙ made-here in clash (sym z))

@@ -5,9 +5,10 @@ use mathlib.Core.Logic.{inl, inr}
 use mathlib.Core.Bool.{true, false}
 use mathlib.Core.List.{List, [], _∷_}
 use native.Mathlib.Omega.{arith}
+use lib.Dec.{ltb, eqb}
 use lib.ListN.{length, getD}
-use borrow.Author.Tests.{le-leb, lt-leb, le-ltb, leb-true, leb-false}
-use Rattle.ring_laws.specs.Lists.{In, test}
+use borrow.Author.Tests.{ne-eqb, le-leb, lt-leb, le-ltb, leb-true, leb-false}
+use Rattle.ring_laws.specs.Lists.{In, below, test}
 use Rattle.ring_laws.specs.Chain.{Chain}
 use Rattle.ring_laws.specs.Rings.{Head, on-place}
 use Rattle.ring_laws.specs.Stores.{sucs, pres, suc-at}
@@ -16,8 +17,12 @@ use Rattle.ring_laws.specs.Table.{Sound}
 use Rattle.model.specs.declared.Counts.{Counts}
 use Rattle.model.specs.Counts.{isProcess, total}
 use Rattle.model_laws.specs.Tables.{setHead, membersOf, SpellsSets}
+use Rattle.simset_laws.specs.Procedures.{linkOr}
+use Rattle.simset_laws.specs.Calls.{orNone}
+use Rattle.simset_laws.specs.QueryLaws.{or-link, or-none}
+use Rattle.sheet.specs.Accepted.{operandBase}
 use Rattle.machine.specs.Operands.{firstProcess}
-use Rattle.run_laws.specs.OnTables.{processFrom, processAt}
+use Rattle.run_laws.specs.OnTables.{processFrom, processAt, operandWith}
 
 -- ---- the clauses of the walk
 
@@ -78,6 +83,26 @@ module _ (c : Counts) (links : List ℕ) (v : ℕ) where
 -- where the first place is a process there is no walk
 pub no-walk : (c : Counts) (links : List ℕ) (v : ℕ) → isProcess c v ≡ true → v ≡ processFrom c links (total c + 1) v
 no-walk c links v e = sym (from-process c links (total c + 1) v (omega arith) e)
+
+-- a first member that is a process or none is what the walk finds
+at-first : (c : Counts) (links : List ℕ) (v : ℕ) → orNone (isProcess c (linkOr (c .heads) v)) (linkOr (c .heads) v) ≡ true
+    → processFrom c links (total c + 1) v ≡ linkOr (c .heads) v
+at-first c links v h =
+    below (c .heads) v
+    (λ l. let e : linkOr (c .heads) v ≡ v = or-link (c .heads) v l in
+    let p : isProcess c v ≡ true = rw (e, ne-eqb v 0 (λ z. omega arith)) at h in
+    sym (no-walk c links v p) ∙ sym e)
+    (λ l. from-head c links (total c + 1) v l ∙ sym (or-none (c .heads) v l))
+
+-- so where an operand with no walk is a process or none, it is what the operation takes
+pub at-hand : (c : Counts) (links : List ℕ) (f v : ℕ)
+    → orNone (isProcess c (operandWith c false links f v)) (operandWith c false links f v) ≡ true
+    → operandWith c true links f v ≡ operandWith c false links f v
+unfolding operandWith
+at-hand c links f v h =
+    test (ltb v operandBase)
+    (λ e. rw e)
+    (λ e. test (eqb v operandBase) (λ q. rw (e, q)) (λ q. rw (e, q) (at-first c links (getD links (v - operandBase) 0) (rw (e, q) at h))))
 
 -- ---- the walk finds what the list says
 

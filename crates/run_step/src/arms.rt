@@ -8,8 +8,6 @@ use model::answer::Answer;
 use sheet::records::clause_at;
 use sheet::records::t_at;
 use sheet::records::x_at;
-use simulation::soon::activate_after;
-use simulation::soon::activate_now;
 use simulation::steps::activate;
 use simulation::steps::cancel;
 use simulation::steps::hold_now;
@@ -17,7 +15,6 @@ use simulation::steps::wait;
 ghost use mathlib.Core.Path.{_≡_};
 ghost use mathlib.Core.Bool.{true, false};
 ghost use Prim.Native.Nat.{_+_, _*_, _≤_};
-ghost use lib.IntN.{pos};
 ghost use lib.ListN.{length};
 ghost use Rattle.model.specs.Counts.{limit};
 ghost use Rattle.model_laws.specs.Now.{half};
@@ -81,60 +78,14 @@ pub(crate) fn cancel_of(
     ensures { λ r. ⌜ Answers (half c) (cancelStep c (operandWith c true (now (links .entry)) f (recordFrom (now (sheet .entry)) i .x))
         (sqs (now (axis .entry)) (now (times .entry)))) (now (axis .exit)) (now (times .exit)) r ⌝ }
 {
-    let x = x_of(c, sheet, i, links, f, true);
-    cancel(c, axis, times, x)
+    let process = x_of(c, sheet, i, links, f, true);
+    cancel(c, axis, times, process)
 }
 
 fn wide_clause(k: u8) -> u32
     ensures { λ r. ⌜ r ≡ k ⌝ }
 {
     k as u32
-}
-
-// Activate with no clause.
-pub(crate) fn direct_of(
-    c: Counts,
-    sheet: &[u8],
-    i: usize,
-    links: &[u32],
-    axis: &mut [u32],
-    times: &mut [u64],
-    marks: &[u8],
-    f: u32,
-    time: u64,
-) -> Answer
-    requires { ⌜ Readable c (now sheet) i (now links) f (recordFrom (now sheet) i .x) ⌝ }
-    requires { ⌜ Judged c (now axis) ⌝ }
-    requires { ⌜ Noticed (half c) f time (now axis) (now times) ⌝ }
-    ensures { λ r. ⌜ Answers (half c) (timedStep c false 0 (operandWith c true (now (links .entry)) f (recordFrom (now (sheet .entry)) i .x)) 0
-        (pos 0) (now (marks .entry)) (sqs (now (axis .entry)) (now (times .entry)))) (now (axis .exit)) (now (times .exit)) r ⌝ }
-{
-    let x = x_of(c, sheet, i, links, f, true);
-    activate_now(c, axis, times, marks, f, time, x)
-}
-
-// Activate after a delay.
-pub(crate) fn delayed_of(
-    c: Counts,
-    sheet: &[u8],
-    i: usize,
-    links: &[u32],
-    axis: &mut [u32],
-    times: &mut [u64],
-    marks: &[u8],
-    f: u32,
-    time: u64,
-) -> Answer
-    requires { ⌜ Readable c (now sheet) i (now links) f (recordFrom (now sheet) i .x) ⌝ }
-    requires { ⌜ Judged c (now axis) ⌝ }
-    requires { ⌜ Noticed (half c) f time (now axis) (now times) ⌝ }
-    ensures { λ r. ⌜ Answers (half c) (timedStep c false 2 (operandWith c true (now (links .entry)) f (recordFrom (now (sheet .entry)) i .x)) 0
-        (recordFrom (now (sheet .entry)) i .t) (now (marks .entry)) (sqs (now (axis .entry)) (now (times .entry)))) (now (axis .exit))
-        (now (times .exit)) r ⌝ }
-{
-    let x = x_of(c, sheet, i, links, f, true);
-    let t = t_at(sheet, i);
-    activate_after(c, axis, times, marks, f, time, x, t)
 }
 
 // Activate, and again: reactivate.

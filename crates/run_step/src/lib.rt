@@ -6,6 +6,7 @@ mod members;
 pub mod perform;
 pub mod reading;
 mod set_arms;
+mod soon;
 
 use model::Counts;
 use ring::wide;

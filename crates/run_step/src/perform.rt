@@ -1,11 +1,11 @@
 // The calls that a stretch of turns makes itself, on judged tables, and what they mean for current.
 use crate::arms::accum_of;
-use crate::arms::delayed_of;
-use crate::arms::direct_of;
 use crate::arms::hold_of;
 use crate::arms::wait_of;
 use crate::set_arms::into_of;
 use crate::set_arms::out_of;
+use crate::soon::delayed_of;
+use crate::soon::direct_of;
 use model::Counts;
 use model::Refusal;
 use model::answer::Answer;
@@ -88,16 +88,10 @@ fn perform_at(
         10 => {
             let k = clause_at(sheet, i);
             if k == 2 {
-                return unless_refused(
-                    delayed_of(c, sheet, i, links, axis, times, marks, f, time),
-                    Effect::Moves,
-                );
+                return delayed_of(c, sheet, i, links, axis, times, marks, f, time);
             }
             if k == 0 {
-                return unless_refused(
-                    direct_of(c, sheet, i, links, axis, times, marks, f, time),
-                    Effect::Moves,
-                );
+                return direct_of(c, sheet, i, links, axis, times, marks, f, time);
             }
             Effect::Apart
         }

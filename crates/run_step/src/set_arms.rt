@@ -57,9 +57,9 @@ pub(crate) fn into_of(c: Counts, sheet: &[u8], i: usize, links: &mut [u32], f: u
         (operandWith c false (now (links .entry)) f (recordFrom (now (sheet .entry)) i .y)) (now (links .entry)))
         (record { links = now (links .exit); answer = r }) ⌝ }
 {
-    let x = x_of(c, sheet, i, links, f, false);
-    let y = y_of(c, sheet, i, links, f, false);
-    into(c, links, x, y)
+    let link = x_of(c, sheet, i, links, f, false);
+    let head = y_of(c, sheet, i, links, f, false);
+    into(c, links, link, head)
 }
 
 pub(crate) fn clear_of(c: Counts, sheet: &[u8], i: usize, links: &mut [u32], f: u32) -> Answer

@@ -23,7 +23,7 @@ ghost use Rattle.simulation_laws.specs.Promise.{sqs, Answers, Judged, Takeable,
 ghost use Rattle.simulation_laws.specs.StepPromise.{FinishMade, WaitMade};
 
 // A process, or none.
-pub(crate) fn process_or_none(c: Counts, x: u32) -> bool
+pub fn process_or_none(c: Counts, x: u32) -> bool
     ensures { λ r. ⌜ r ≡ orNone (isProcess c x) x ⌝ }
 {
     if x == 0 {

@@ -2,7 +2,7 @@ use mathlib.Core.Path.{sym, ap}
 use Rattle.sheet.specs.declared.records.Record.{Record}
 use Rattle.run_laws.specs.Reads.{got-end}
 use Rattle.run_laws.specs.Run.{recordGot}
-use Rattle.run_laws.specs.Tried.{apart-0, tried-not}
+use Rattle.run_laws.specs.Tried.{left-0, tried-not}
 use Rattle.run_laws.specs.Performing.{tried-at}
 use borrow.Author.Needs.{needs}
 use native.Mathlib.Omega.{arith}
@@ -23,7 +23,7 @@ abbrev after-perform-at : tie.After-perform-at → tie.After-perform-at
 after-perform-at x = x
 
 returns : tie.Need-returns
-returns c = tried-not _ _ _ _ _ (apart-0 (recordGot (start (search) .args .c .processes) (start (search) .args .sheet .now) (start (search) .args .r)) (ap (λ (q : Record). q .operation) (sym (got-end _ _ _ (c .if1 .taken)))))
+returns c = tried-not _ _ _ _ _ (left-0 _ (recordGot (start (search) .args .c .processes) (start (search) .args .sheet .now) (start (search) .args .r)) _ _ (ap (λ (q : Record). q .operation) (sym (got-end _ _ _ (c .if1 .taken)))))
 
 record-offset-requires : tie.Need-record-offset-requires
 record-offset-requires c κs = omega (arith, c .if1 .left)

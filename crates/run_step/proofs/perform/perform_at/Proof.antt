@@ -1,6 +1,6 @@
-use Rattle.run_laws.specs.Arms.{arm-1, arm-4, arm-6, arm-8, arm-10, arm-delay, arm-12, arm-13}
-use Rattle.run_laws.specs.Tried.{here, here-soon, apart-10, apart-other, tried-not, tried-made}
-use Rattle.run_laws.specs.Performing.{judged, takeable, noticed, place-some, x-readable, y-readable, numbered, in-sixty-four}
+use Rattle.run_laws.specs.Arms.{arm-1, arm-4, arm-6, arm-8, arm-12, arm-13}
+use Rattle.run_laws.specs.Tried.{here, left-10, left-other, tried-not, tried-made}
+use Rattle.run_laws.specs.Performing.{takeable, noticed, place-some, x-readable, y-readable, numbered, in-sixty-four}
 use mathlib.Core.Path.{refl, sym, _∙_}
 use Rattle.sheet.specs.Sheet.{recordFrom}
 use borrow.Author.Needs.{needs}
@@ -91,10 +91,7 @@ clause-at-requires : tie.Need-clause-at-requires
 clause-at-requires c κs = start (search) .pre .callable .inside
 
 delayed-of-requires : tie.Need-delayed-of-requires
-delayed-of-requires c κs = (x-readable _ _ _ _ _ (start (search) .pre .callable) _ (after-operation-at (search) .operation-at .ensures) (λ z. omega (arith, at-match-keys5 (search) .match .keys5)), (judged _ _ _ _ _ (start (search) .pre .callable), noticed _ _ _ _ _ _ _ (start (search) .pre)))
-
-unless-refused-requires-5 : tie.Need-unless-refused-requires-5
-unless-refused-requires-5 c κs = search needs
+delayed-of-requires c κs = (start (search) .pre .callable, (noticed _ _ _ _ _ _ _ (start (search) .pre), (sym (after-operation-at (search) .operation-at .ensures) ∙ at-match-keys5 (search) .match .keys5, sym (after-clause-at (search) .clause-at .ensures) ∙ then1 (search) .if1 .taken)))
 
 same-length : tie.Need-same-length
 same-length c = search needs
@@ -106,13 +103,10 @@ same-length-3 : tie.Need-same-length-3
 same-length-3 c = search needs
 
 returns : tie.Need-returns
-returns c = tried-made _ _ _ _ _ (here-soon (recordFrom (start (search) .args .sheet .now) (start (search) .args .i)) 2 refl (sym (after-operation-at (search) .operation-at .ensures) ∙ at-match-keys5 (search) .match .keys5) (sym (after-clause-at (search) .clause-at .ensures) ∙ then1 (search) .if1 .taken)) _ (arm-delay (start (search) .args .c) (recordFrom (start (search) .args .sheet .now) (start (search) .args .i)) (start (search) .args .f) (start (search) .args .links .now) (start (search) .args .axis .now) (start (search) .args .times .now) (start (search) .args .marks .now) (start (search) .args .accums .now) _ _ _ _ (c .unless-refused5 .ensures) (sym (after-operation-at (search) .operation-at .ensures) ∙ at-match-keys5 (search) .match .keys5) (sym (after-clause-at (search) .clause-at .ensures) ∙ then1 (search) .if1 .taken) (after-delayed-of (search) .delayed-of .ensures))
+returns c = after-delayed-of (search) .delayed-of .ensures _
 
 direct-of-requires : tie.Need-direct-of-requires
-direct-of-requires c κs = (x-readable _ _ _ _ _ (start (search) .pre .callable) _ (after-operation-at (search) .operation-at .ensures) (λ z. omega (arith, at-match-keys5 (search) .match .keys5)), (judged _ _ _ _ _ (start (search) .pre .callable), noticed _ _ _ _ _ _ _ (start (search) .pre)))
-
-unless-refused-requires-6 : tie.Need-unless-refused-requires-6
-unless-refused-requires-6 c κs = search needs
+direct-of-requires c κs = (start (search) .pre .callable, (noticed _ _ _ _ _ _ _ (start (search) .pre), (sym (after-operation-at (search) .operation-at .ensures) ∙ at-match-keys5 (search) .match .keys5, sym (after-clause-at (search) .clause-at .ensures) ∙ then2 (search) .if2 .taken)))
 
 same-length-4 : tie.Need-same-length-4
 same-length-4 c = search needs
@@ -124,7 +118,7 @@ same-length-6 : tie.Need-same-length-6
 same-length-6 c = search needs
 
 returns-2 : tie.Need-returns-2
-returns-2 c = tried-made _ _ _ _ _ (here-soon (recordFrom (start (search) .args .sheet .now) (start (search) .args .i)) 0 refl (sym (after-operation-at (search) .operation-at .ensures) ∙ at-match-keys5 (search) .match .keys5) (sym (after-clause-at (search) .clause-at .ensures) ∙ then2 (search) .if2 .taken)) _ (arm-10 (start (search) .args .c) (recordFrom (start (search) .args .sheet .now) (start (search) .args .i)) (start (search) .args .f) (start (search) .args .links .now) (start (search) .args .axis .now) (start (search) .args .times .now) (start (search) .args .marks .now) (start (search) .args .accums .now) _ _ _ _ (c .unless-refused6 .ensures) (sym (after-operation-at (search) .operation-at .ensures) ∙ at-match-keys5 (search) .match .keys5) (sym (after-clause-at (search) .clause-at .ensures) ∙ then2 (search) .if2 .taken) (after-direct-of (search) .direct-of .ensures))
+returns-2 c = after-direct-of (search) .direct-of .ensures _
 
 branch-requires : tie.Need-branch-requires
 branch-requires c κs = (x-readable _ _ _ _ _ (start (search) .pre .callable) _ (c .before .before .operation-at .ensures) (λ z. omega (arith, c .before .match .keys6)), place-some _ _ _ _ _ (start (search) .pre .callable))
@@ -132,20 +126,20 @@ branch-requires c κs = (x-readable _ _ _ _ _ (start (search) .pre .callable) _ 
 accum-of-requires : tie.Need-accum-of-requires
 accum-of-requires c κs = (start (search) .pre .callable .inside, numbered _ _ _ _ _ _ _ (start (search) .pre) _ (c .before .before .operation-at .ensures) (c .before .match .keys7))
 
-unless-refused-requires-7 : tie.Need-unless-refused-requires-7
-unless-refused-requires-7 c κs = search needs
+unless-refused-requires-5 : tie.Need-unless-refused-requires-5
+unless-refused-requires-5 c κs = search needs
 
 same-length-7 : tie.Need-same-length-7
 same-length-7 c = search needs
 
 returns-3 : tie.Need-returns-3
-returns-3 c = tried-made _ _ _ _ _ (here (recordFrom (start (search) .args .sheet .now) (start (search) .args .i)) 1 refl refl (sym (after-operation-at (search) .operation-at .ensures) ∙ at-match-keys1 (search) .match .keys1)) _ (arm-1 (start (search) .args .c) (recordFrom (start (search) .args .sheet .now) (start (search) .args .i)) (start (search) .args .f) (start (search) .args .links .now) (start (search) .args .axis .now) (start (search) .args .times .now) (start (search) .args .marks .now) (start (search) .args .accums .now) _ _ _ (c .unless-refused .ensures) (sym (after-operation-at (search) .operation-at .ensures) ∙ at-match-keys1 (search) .match .keys1) (after-out-of (search) .out-of .ensures))
+returns-3 c = tried-made _ _ _ _ _ (here _ (recordFrom (start (search) .args .sheet .now) (start (search) .args .i)) _ _ 1 refl refl (sym (after-operation-at (search) .operation-at .ensures) ∙ at-match-keys1 (search) .match .keys1)) _ (arm-1 (start (search) .args .c) (recordFrom (start (search) .args .sheet .now) (start (search) .args .i)) (start (search) .args .f) (start (search) .args .links .now) (start (search) .args .axis .now) (start (search) .args .times .now) (start (search) .args .marks .now) (start (search) .args .accums .now) _ _ _ (c .unless-refused .ensures) (sym (after-operation-at (search) .operation-at .ensures) ∙ at-match-keys1 (search) .match .keys1) (after-out-of (search) .out-of .ensures))
 
 same-length-8 : tie.Need-same-length-8
 same-length-8 c = search needs
 
 returns-4 : tie.Need-returns-4
-returns-4 c = tried-made _ _ _ _ _ (here (recordFrom (start (search) .args .sheet .now) (start (search) .args .i)) 4 refl refl (sym (after-operation-at (search) .operation-at .ensures) ∙ at-match-keys2 (search) .match .keys2)) _ (arm-4 (start (search) .args .c) (recordFrom (start (search) .args .sheet .now) (start (search) .args .i)) (start (search) .args .f) (start (search) .args .links .now) (start (search) .args .axis .now) (start (search) .args .times .now) (start (search) .args .marks .now) (start (search) .args .accums .now) _ _ _ (c .unless-refused2 .ensures) (sym (after-operation-at (search) .operation-at .ensures) ∙ at-match-keys2 (search) .match .keys2) (after-into-of (search) .into-of .ensures))
+returns-4 c = tried-made _ _ _ _ _ (here _ (recordFrom (start (search) .args .sheet .now) (start (search) .args .i)) _ _ 4 refl refl (sym (after-operation-at (search) .operation-at .ensures) ∙ at-match-keys2 (search) .match .keys2)) _ (arm-4 (start (search) .args .c) (recordFrom (start (search) .args .sheet .now) (start (search) .args .i)) (start (search) .args .f) (start (search) .args .links .now) (start (search) .args .axis .now) (start (search) .args .times .now) (start (search) .args .marks .now) (start (search) .args .accums .now) _ _ _ (c .unless-refused2 .ensures) (sym (after-operation-at (search) .operation-at .ensures) ∙ at-match-keys2 (search) .match .keys2) (after-into-of (search) .into-of .ensures))
 
 same-length-9 : tie.Need-same-length-9
 same-length-9 c = search needs
@@ -154,7 +148,7 @@ same-length-10 : tie.Need-same-length-10
 same-length-10 c = search needs
 
 returns-5 : tie.Need-returns-5
-returns-5 c = tried-made _ _ _ _ _ (here (recordFrom (start (search) .args .sheet .now) (start (search) .args .i)) 6 refl refl (sym (after-operation-at (search) .operation-at .ensures) ∙ at-match-keys3 (search) .match .keys3)) _ (arm-6 (start (search) .args .c) (recordFrom (start (search) .args .sheet .now) (start (search) .args .i)) (start (search) .args .f) (start (search) .args .links .now) (start (search) .args .axis .now) (start (search) .args .times .now) (start (search) .args .marks .now) (start (search) .args .accums .now) _ _ _ _ (c .unless-refused3 .ensures) (sym (after-operation-at (search) .operation-at .ensures) ∙ at-match-keys3 (search) .match .keys3) (after-hold-of (search) .hold-of .ensures))
+returns-5 c = tried-made _ _ _ _ _ (here _ (recordFrom (start (search) .args .sheet .now) (start (search) .args .i)) _ _ 6 refl refl (sym (after-operation-at (search) .operation-at .ensures) ∙ at-match-keys3 (search) .match .keys3)) _ (arm-6 (start (search) .args .c) (recordFrom (start (search) .args .sheet .now) (start (search) .args .i)) (start (search) .args .f) (start (search) .args .links .now) (start (search) .args .axis .now) (start (search) .args .times .now) (start (search) .args .marks .now) (start (search) .args .accums .now) _ _ _ _ (c .unless-refused3 .ensures) (sym (after-operation-at (search) .operation-at .ensures) ∙ at-match-keys3 (search) .match .keys3) (after-hold-of (search) .hold-of .ensures))
 
 same-length-11 : tie.Need-same-length-11
 same-length-11 c = search needs
@@ -166,25 +160,25 @@ same-length-13 : tie.Need-same-length-13
 same-length-13 c = search needs
 
 returns-6 : tie.Need-returns-6
-returns-6 c = tried-made _ _ _ _ _ (here (recordFrom (start (search) .args .sheet .now) (start (search) .args .i)) 8 refl refl (sym (after-operation-at (search) .operation-at .ensures) ∙ at-match-keys4 (search) .match .keys4)) _ (arm-8 (start (search) .args .c) (recordFrom (start (search) .args .sheet .now) (start (search) .args .i)) (start (search) .args .f) (start (search) .args .links .now) (start (search) .args .axis .now) (start (search) .args .times .now) (start (search) .args .marks .now) (start (search) .args .accums .now) _ _ _ _ (c .unless-refused4 .ensures) _ (sym (after-operation-at (search) .operation-at .ensures) ∙ at-match-keys4 (search) .match .keys4) (after-wait-of (search) .wait-of .ensures))
+returns-6 c = tried-made _ _ _ _ _ (here _ (recordFrom (start (search) .args .sheet .now) (start (search) .args .i)) _ _ 8 refl refl (sym (after-operation-at (search) .operation-at .ensures) ∙ at-match-keys4 (search) .match .keys4)) _ (arm-8 (start (search) .args .c) (recordFrom (start (search) .args .sheet .now) (start (search) .args .i)) (start (search) .args .f) (start (search) .args .links .now) (start (search) .args .axis .now) (start (search) .args .times .now) (start (search) .args .marks .now) (start (search) .args .accums .now) _ _ _ _ (c .unless-refused4 .ensures) _ (sym (after-operation-at (search) .operation-at .ensures) ∙ at-match-keys4 (search) .match .keys4) (after-wait-of (search) .wait-of .ensures))
 
 returns-7 : tie.Need-returns-7
-returns-7 c = tried-not _ _ _ _ _ (apart-10 (recordFrom (start (search) .args .sheet .now) (start (search) .args .i)) (sym (after-operation-at (search) .operation-at .ensures) ∙ at-match-keys5 (search) .match .keys5) (λ z. c .before .if1 .left (c .before .before .clause-at .ensures ∙ z)) (λ z. c .if2 .left (c .before .before .clause-at .ensures ∙ z)))
+returns-7 c = tried-not _ _ _ _ _ (left-10 _ (recordFrom (start (search) .args .sheet .now) (start (search) .args .i)) _ _ (sym (after-operation-at (search) .operation-at .ensures) ∙ at-match-keys5 (search) .match .keys5) (λ z. c .before .if1 .left (c .before .before .clause-at .ensures ∙ z)) (λ z. c .if2 .left (c .before .before .clause-at .ensures ∙ z)))
 
 same-length-14 : tie.Need-same-length-14
 same-length-14 c = search needs
 
 returns-8 : tie.Need-returns-8
-returns-8 c = tried-made _ _ _ _ _ (here (recordFrom (start (search) .args .sheet .now) (start (search) .args .i)) 12 refl refl (sym (after-operation-at (search) .operation-at .ensures) ∙ c .before .before .match .keys6)) _ (arm-12 (start (search) .args .c) (recordFrom (start (search) .args .sheet .now) (start (search) .args .i)) (start (search) .args .f) (start (search) .args .links .now) (start (search) .args .axis .now) (start (search) .args .times .now) (start (search) .args .marks .now) (start (search) .args .accums .now) (sym (after-operation-at (search) .operation-at .ensures) ∙ c .before .before .match .keys6) _ (c .branch .ensures))
+returns-8 c = tried-made _ _ _ _ _ (here _ (recordFrom (start (search) .args .sheet .now) (start (search) .args .i)) _ _ 12 refl refl (sym (after-operation-at (search) .operation-at .ensures) ∙ c .before .before .match .keys6)) _ (arm-12 (start (search) .args .c) (recordFrom (start (search) .args .sheet .now) (start (search) .args .i)) (start (search) .args .f) (start (search) .args .links .now) (start (search) .args .axis .now) (start (search) .args .times .now) (start (search) .args .marks .now) (start (search) .args .accums .now) (sym (after-operation-at (search) .operation-at .ensures) ∙ c .before .before .match .keys6) _ (c .branch .ensures))
 
 same-length-15 : tie.Need-same-length-15
 same-length-15 c = search needs
 
 returns-9 : tie.Need-returns-9
-returns-9 c = tried-made _ _ _ _ _ (here (recordFrom (start (search) .args .sheet .now) (start (search) .args .i)) 13 refl refl (sym (after-operation-at (search) .operation-at .ensures) ∙ at-match-keys7 (search) .match .keys7)) _ (arm-13 (start (search) .args .c) (recordFrom (start (search) .args .sheet .now) (start (search) .args .i)) (start (search) .args .f) (start (search) .args .links .now) (start (search) .args .axis .now) (start (search) .args .times .now) (start (search) .args .marks .now) (start (search) .args .accums .now) _ _ (sym (after-operation-at (search) .operation-at .ensures) ∙ at-match-keys7 (search) .match .keys7) (in-sixty-four _ _ _ _ _ _ _ (start (search) .pre) _ (after-operation-at (search) .operation-at .ensures) (at-match-keys7 (search) .match .keys7)) _ (start (search) .pre .time-is) _ (c .before .before .accum-of .ensures) (c .unless-refused7 .ensures))
+returns-9 c = tried-made _ _ _ _ _ (here _ (recordFrom (start (search) .args .sheet .now) (start (search) .args .i)) _ _ 13 refl refl (sym (after-operation-at (search) .operation-at .ensures) ∙ at-match-keys7 (search) .match .keys7)) _ (arm-13 (start (search) .args .c) (recordFrom (start (search) .args .sheet .now) (start (search) .args .i)) (start (search) .args .f) (start (search) .args .links .now) (start (search) .args .axis .now) (start (search) .args .times .now) (start (search) .args .marks .now) (start (search) .args .accums .now) _ _ (sym (after-operation-at (search) .operation-at .ensures) ∙ at-match-keys7 (search) .match .keys7) (in-sixty-four _ _ _ _ _ _ _ (start (search) .pre) _ (after-operation-at (search) .operation-at .ensures) (at-match-keys7 (search) .match .keys7)) _ (start (search) .pre .time-is) _ (c .before .before .accum-of .ensures) (c .unless-refused5 .ensures))
 
 returns-10 : tie.Need-returns-10
-returns-10 c = tried-not _ _ _ _ _ (apart-other (recordFrom (start (search) .args .sheet .now) (start (search) .args .i)) _ (c .before .operation-at .ensures) (c .match .rest .0 .0 .0 .0 .0 .0 .1) (c .match .rest .0 .0 .0 .0 .0 .1) (c .match .rest .0 .0 .0 .0 .1) (c .match .rest .0 .0 .0 .1) (c .match .rest .0 .0 .1) (c .match .rest .0 .1) (c .match .rest .1))
+returns-10 c = tried-not _ _ _ _ _ (left-other _ (recordFrom (start (search) .args .sheet .now) (start (search) .args .i)) _ _ _ (c .before .operation-at .ensures) (c .match .rest .0 .0 .0 .0 .0 .0 .1) (c .match .rest .0 .0 .0 .0 .0 .1) (c .match .rest .0 .0 .0 .0 .1) (c .match .rest .0 .0 .0 .1) (c .match .rest .0 .0 .1) (c .match .rest .0 .1) (c .match .rest .1))
 
 pub perform-at-spec : {M : Type 1} → statement M
 perform-at-spec =
@@ -201,20 +195,18 @@ perform-at-spec =
     unless-refused-requires-4
     clause-at-requires
     delayed-of-requires
-    unless-refused-requires-5
     same-length
     same-length-2
     same-length-3
     returns
     direct-of-requires
-    unless-refused-requires-6
     same-length-4
     same-length-5
     same-length-6
     returns-2
     branch-requires
     accum-of-requires
-    unless-refused-requires-7
+    unless-refused-requires-5
     same-length-7
     returns-3
     same-length-8
