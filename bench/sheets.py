@@ -2,6 +2,7 @@
 """sheets.py FOLDER: writes the benchmark sheets. None of their runs ends, so that a trace of 65,536 bytes always fills.
 
 shop       a workshop: 24 benches, 8 suppliers, a foreman and main, 20 crates, 5 queues; eleven of the operations
+mixed      a workshop whose goods-in queue holds crates in front and benches behind; waking the first process walks past the crates
 ties       1,024 processes that hold 10 ticks each: groups of 1,024 equal notices
 tiewalk    short holds in front of a large group of equal notices
 tieprior   every process schedules itself prior, in front of hundreds of equal notices
@@ -20,7 +21,7 @@ CURRENT = 65536
 
 
 def first(head):
-    """The operand that stands for the first member of a head."""
+    """The operand that stands for the first member of a head; in CANCEL, ACTIVATE and REACTIVATE for the first that is a process."""
     return CURRENT + head
 
 
@@ -97,6 +98,33 @@ def shop(benches=24, suppliers=8, crates=20):
     r.add(HOLD, t=4, label='foremanh', to='foreman')
     starts = [1] + [at_bench[p % 3] for p in range(benches)] + [at_supplier[p % 2] for p in range(suppliers)] + [at_foreman]
     return sheet(5, crates, starts, r)
+
+
+def mixed(benches=24, suppliers=8, crates=40):
+    """A supplier puts a crate at the front of goods_in, holds, and wakes a bench, which waits at the end and so finds a crate."""
+    goods_in, free, in_work, bench, supplier = 1, 2, 3, 5, 5 + benches
+    r = Records()
+    for k in range(crates):
+        r.add(INTO, x=supplier + suppliers + k, y=goods_in if k < 2 else free)
+    for p in range(benches + suppliers):
+        r.add(ACTIVATE, 2, x=bench + p, t=p % 5)
+    r.add(HOLD, t=40, label='main', to='main')
+    for ticks in (7, 11, 13):
+        name = 'bench%d' % ticks
+        r.add(WAIT, y=goods_in, label=name)
+        r.add(OUT, x=CURRENT)
+        r.add(INTO, x=first(goods_in), y=in_work)
+        r.add(HOLD, t=ticks)
+        r.add(INTO, x=first(in_work), y=free, to=name)
+    for ticks in (4, 5):
+        name = 'supplier%d' % ticks
+        r.add(IF_EMPTY, x=free, go=name + 'h', label=name)
+        r.add(FOLLOW, x=first(free), y=goods_in)
+        r.add(HOLD, t=ticks)
+        r.add(ACTIVATE, x=first(goods_in))
+        r.add(HOLD, t=ticks, label=name + 'h', to=name)
+    bodies = ['bench%d' % (7, 11, 13)[p % 3] for p in range(benches)] + ['supplier%d' % (4 + p % 2) for p in range(suppliers)]
+    return sheet(3, crates, [1] + [r.labels[name] for name in bodies], r)
 
 
 def everybody(processes, labels, r):
@@ -182,7 +210,7 @@ def sets(heads=4, links=48):
 
 def main():
     folder = Path(sys.argv[1])
-    made = {make.__name__: make() for make in (shop, ties, tiewalk, tieprior, spread, tiny, accum, sets)}
+    made = {make.__name__: make() for make in (shop, mixed, ties, tiewalk, tieprior, spread, tiny, accum, sets)}
     made.update({'%s-%d' % (make.__name__, p): make(p) for make in (ties, spread) for p in (2, 16, 128, 1024)})
     for name, content in made.items():
         (folder / (name + '.sheet')).write_bytes(content)

@@ -36,7 +36,7 @@ typedef struct limit_run {
     rec_t rec[RMAX + 1];
 } limit_run;
 
-/* operand classes: 0 none, 1 head, 2 process, 3 plain link, 4 current, 5 first of a head */
+/* operand classes: 0 none, 1 head, 2 process, 3 plain link, 4 current, 5 first of a head: in 9, 10 and 11 its first process */
 enum {
     H_FINISH, H_REF3,
     H_OUT_K, H_OUT_CUR, H_OUT_FIRST,

@@ -41,7 +41,7 @@ uint64_t go_on(limit_run *restrict g, uint8_t *restrict trace, size_t m)
 #define SWITCH(nx) TO(FIRST, T[p], nx)
 #define REF(n) do { code = (n); goto done; } while (0)
 #define FIRSTOF(h) (S[h] == (h) ? 0 : S[h])
-#define ISPROC(v) ((v) - H - 1 < P)
+#define PROCESSOF(h) s_process(S, H, P, h)
 
     r = pos[p];
     GO;
@@ -156,9 +156,8 @@ wait_n:
     TO(s, T[s], q->next);
 
 cancel_f:
-    x = FIRSTOF(q->x);
+    x = PROCESSOF(q->x);
     if (!x) STAY(q->next);
-    if (!ISPROC(x)) REF(3);
     goto cancel;
 cancel_k:
     x = q->x;
@@ -175,9 +174,8 @@ nop:
     STAY(q->next);
 
 act0_f:
-    x = q->xc == 5 ? FIRSTOF(q->x) : q->x;
+    x = PROCESSOF(q->x);
     if (!x) STAY(q->next);
-    if (!ISPROC(x)) REF(3);
     goto act0;
 act0_k:
     x = q->x;
@@ -199,9 +197,8 @@ act1_k:
     STAY(q->next);
 
 act2_f:
-    x = FIRSTOF(q->x);
+    x = PROCESSOF(q->x);
     if (!x) STAY(q->next);
-    if (!ISPROC(x)) REF(3);
     goto act2;
 act2_k:
     x = q->x;
@@ -231,12 +228,10 @@ act_gen:
 react_gen:
     {
         size_t c = q->clause;
-        x = q->xc == 4 ? H + p : q->xc == 5 ? FIRSTOF(q->x) : q->x;
-        if (x && !ISPROC(x)) REF(3);
+        x = q->xc == 4 ? H + p : q->xc == 5 ? PROCESSOF(q->x) : q->x;
         y = 0;
         if (c >= 5) {
-            y = q->yc == 4 ? H + p : q->yc == 5 ? FIRSTOF(q->y) : q->y;
-            if (y && !ISPROC(y)) REF(3);
+            y = q->yc == 4 ? H + p : q->yc == 5 ? PROCESSOF(q->y) : q->y;
             y -= y ? H : 0;
         }
         if (!x) STAY(q->next);

@@ -32,6 +32,18 @@ static inline void s_follow(uint32_t *S, uint32_t *Q, size_t x, size_t y)
     if (s) { Q[x] = y; S[x] = s; Q[s] = x; S[y] = x; }
 }
 
+/* the first process of head h, or 0: mostly its first member, else a walk along the ring; H heads, P processes */
+static inline size_t s_process(const uint32_t *S, size_t H, size_t P, size_t h)
+{
+    size_t x = S[h];
+    while (unlikely(x - H - 1 >= P)) {           /* a plain link, or the head */
+        if (x == h) return 0;
+        x = S[x];
+        KEEP(x);
+    }
+    return x;
+}
+
 #define AS(p) A[p]
 #define AP(p) A[W + (p)]
 #define LIVE(p) (AS(p) != 0)
