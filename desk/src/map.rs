@@ -1,7 +1,7 @@
 //! The map of a model: its names, and record, line and statement of each step. `./sheet build` writes it beside the sheet.
 
 use crate::names::{self, Names};
-use crate::operations::{row_of, Part};
+use crate::operations::{row_of, Part, Wants};
 use crate::sheet::{Counts, Record, Sheet, CURRENT};
 use std::fmt::Write;
 
@@ -104,11 +104,11 @@ fn sum(bytes: &[u8]) -> u64 {
     bytes.iter().fold(0xcbf2_9ce4_8422_2325, step)
 }
 
-/// An operand in words.
-pub fn operand(value: u32, names: &Names) -> String {
+/// An operand in words, at a place that asks for this.
+fn operand(value: u32, wants: Wants, names: &Names) -> String {
     match value.checked_sub(CURRENT) {
         Some(0) => "current".to_string(),
-        Some(head) => format!("first({})", names[head as usize]),
+        Some(head) => format!("{}({})", wants.first(), names[head as usize]),
         None => names[value as usize].clone(),
     }
 }
@@ -118,8 +118,8 @@ pub fn statement(record: &Record, names: &Names, label: &dyn Fn(u32) -> String) 
     let Some(row) = row_of(record.operation, record.clause, record.y == 0) else { return String::new() };
     let word = |part: &Part| match part {
         Part::Word(word) => word.to_string(),
-        Part::X(_) => operand(record.x, names),
-        Part::Y(_) => operand(record.y, names),
+        Part::X(wants) => operand(record.x, *wants, names),
+        Part::Y(wants) => operand(record.y, *wants, names),
         Part::T => record.t.to_string(),
         Part::Number => record.x.to_string(),
         Part::Record => label(record.y),

@@ -4,6 +4,10 @@
 
 use Part::{Number, Record, Word, T, X, Y};
 
+/// The words for the first member of a queue, and for the first that is a process.
+pub const FIRST: &str = "first";
+pub const FIRST_PROCESS: &str = "first_process";
+
 /// What an operand has to be at its step; anything else is refused with 3.
 #[derive(Clone, Copy, PartialEq, Eq, Debug)]
 pub enum Wants {
@@ -13,6 +17,7 @@ pub enum Wants {
     LinkageOrNone,
     Head,
     HeadOrNone,
+    /// In cancel, activate and reactivate alone: 65,536 + h is the first process of head h there.
     ProcessOrNone,
 }
 
@@ -24,6 +29,15 @@ impl Wants {
             Wants::LinkageOrNone => "a head, a process or a link",
             Wants::Head | Wants::HeadOrNone => "a head",
             Wants::ProcessOrNone => "a process",
+        }
+    }
+
+    /// The word for 65,536 + h.
+    pub fn first(self) -> &'static str {
+        if self == Wants::ProcessOrNone {
+            FIRST_PROCESS
+        } else {
+            FIRST
         }
     }
 }

@@ -1,8 +1,8 @@
 //! A run followed step by step on plain lists, so that a refused step can be told in words. The engine decides; this finds the words.
 
-use crate::operations::{row_of, Part};
+use crate::operations::{row_of, Wants};
 use crate::schedule::Schedule;
-use crate::sheet::{Record, Sheet, CURRENT, MAX_ACCUMULATORS, MOST_RATE};
+use crate::sheet::{Kind, Record, Sheet, CURRENT, MAX_ACCUMULATORS, MOST_RATE};
 
 pub struct Replay<'a> {
     pub sheet: &'a Sheet,
@@ -63,13 +63,20 @@ impl Replay<'_> {
         self.rates[accumulator as usize]
     }
 
-    /// The linkage that an operand stands for now, 0 for none.
-    pub fn resolved(&self, operand: u32) -> u32 {
+    /// The linkage that an operand stands for now, 0 for none, at a place that asks for this.
+    pub fn resolved(&self, operand: u32, wants: Wants) -> u32 {
         match operand.checked_sub(CURRENT) {
             Some(0) => self.current(),
-            Some(head) => self.queues[head as usize].first().copied().unwrap_or(0),
+            Some(head) => self.first(head, wants),
             None => operand,
         }
+    }
+
+    /// The first member of a queue, or the first that is a process where one is asked for.
+    fn first(&self, head: u32, wants: Wants) -> u32 {
+        let process = |link: u32| self.sheet.counts.kind(link) == Kind::Process;
+        let meant = |link: &&u32| wants != Wants::ProcessOrNone || process(**link);
+        self.queues[head as usize].iter().find(meant).copied().unwrap_or(0)
     }
 
     /// One step; where it is refused nothing changes.
@@ -87,7 +94,8 @@ impl Replay<'_> {
     /// The call of a record; the answer is where its process goes on.
     fn perform(&mut self, record: &Record) -> Result<u32, Refusal> {
         let row = row_of(record.operation, record.clause, record.y == 0).ok_or(3)?;
-        let (x, y) = (self.resolved(record.x), if row.takes(Part::Record) { 0 } else { self.resolved(record.y) });
+        let resolved = |value: u32, wants: Option<Wants>| wants.map_or(0, |w| self.resolved(value, w));
+        let (x, y) = (resolved(record.x, row.wants_x()), resolved(record.y, row.wants_y()));
         let fits = |number: u32, wants: Option<_>| wants.is_none_or(|w| self.sheet.counts.kind(number).will_do(w));
         if !fits(x, row.wants_x()) || !fits(y, row.wants_y()) {
             return Err(3);

@@ -11,7 +11,7 @@ pub const MAX_ACCUMULATORS: u32 = 64;
 pub const LATEST: u64 = 1_099_511_627_775;
 /// An accumulator's rate lies between this and its negative.
 pub const MOST_RATE: i64 = 1_000_000;
-/// The operand that means current; above it by h, the first member of head h.
+/// The operand that means current; above it by h, the first member of head h, or its first process (`Wants::ProcessOrNone`).
 pub const CURRENT: u32 = 65_536;
 
 const HEADER_BYTES: usize = 16;

@@ -49,12 +49,12 @@ fn record<'a>(replay: &'a Replay) -> Option<(&'a Record, &'static Row)> {
 /// The first operand that will not do, and what to ask before.
 fn operand(map: &Map, replay: &Replay) -> (String, Vec<String>) {
     let Some((record, row)) = record(replay) else { return (String::new(), vec![]) };
-    let kind = |value: u32| replay.sheet.counts.kind(replay.resolved(value));
+    let kind = |value: u32, wants: Wants| replay.sheet.counts.kind(replay.resolved(value, wants));
     let operands = [(record.x, row.wants_x()), (record.y, row.wants_y())];
-    let wrong = operands.into_iter().find(|(value, wants)| wants.is_some_and(|w| !kind(*value).will_do(w)));
+    let wrong = operands.into_iter().find(|(value, wants)| wants.is_some_and(|w| !kind(*value, w).will_do(w)));
     let Some((value, Some(wants))) = wrong else { return ("an operand will not do".to_string(), vec![]) };
     let name = |number: u32| map.name(number).to_string();
-    match (value, kind(value)) {
+    match (value, kind(value, wants)) {
         (0, _) => (format!("it is none, and {}", takes(row, wants)), vec![]),
         (CURRENT, _) => {
             (format!("current is {}, a process, and {}", name(replay.current()), takes(row, wants)), vec![])
@@ -64,7 +64,7 @@ fn operand(map: &Map, replay: &Replay) -> (String, Vec<String>) {
             (format!("{head} was empty"), vec![format!("ask first: 'if empty {head} goto LABEL'")])
         }
         (CURRENT.., kind) => {
-            let (head, first) = (name(value - CURRENT), name(replay.resolved(value)));
+            let (head, first) = (name(value - CURRENT), name(replay.resolved(value, wants)));
             (format!("the first in {head} was {first}, {}, and {}", kind.words(), takes(row, wants)), vec![])
         }
         (_, kind) => (format!("{} is {}, and {}", name(value), kind.words(), takes(row, wants)), vec![]),

@@ -74,21 +74,32 @@ model() { { printf 'heads q r\nprocesses main a b\nlinks c\nmain:\n' && cat; } >
 links="takes a process or a link"
 stay="some process has to stay scheduled as long as the run is to go on, main by a 'hold' perhaps"
 
-model <<< $'    into c q\n    hold 2\n    activate first(q)\na:\n    end\nb:\n    end'
-refused "the first of a queue is a link" "model.txt:7: refused 3 at tick 2, record 3: main could not do 'activate first(q)':\
- the first in q was c, a link, and 'activate' takes a process"
-model <<< $'    into c q\n    follow a c\n    activate first(q)\na:\n    end\nb:\n    end'
-refused "behind a link" "model.txt:7: refused 3 at tick 0, record 3: main could not do 'activate first(q)':\
- the first in q was c, a link, and 'activate' takes a process"
-model <<< $'    into a q\n    precede c a\n    activate first(q)\na:\n    end\nb:\n    end'
-refused "in front of a link" "model.txt:7: refused 3 at tick 0, record 3: main could not do 'activate first(q)':\
- the first in q was c, a link, and 'activate' takes a process"
-model <<< $'    into a q\n    follow c q\n    precede b q\n    out a\n    activate first(q)\na:\n    end\nb:\n    end'
-refused "links beside a head" "model.txt:9: refused 3 at tick 0, record 5: main could not do 'activate first(q)':\
- the first in q was c, a link, and 'activate' takes a process"
+model <<< $'    into c q\n    hold 2\n    into a first(q)\na:\n    end\nb:\n    end'
+refused "the first of a queue is a link" "model.txt:7: refused 3 at tick 2, record 3: main could not do 'into a first(q)':\
+ the first in q was c, a link, and 'into' takes a head"
+model <<< $'    into c q\n    follow a c\n    wait first(q)\na:\n    end\nb:\n    end'
+refused "behind a link" "model.txt:7: refused 3 at tick 0, record 3: main could not do 'wait first(q)':\
+ the first in q was c, a link, and 'wait' takes a head"
+model <<< $'    into c q\n    precede a c\n    wait first(q)\na:\n    end\nb:\n    end'
+refused "in front of a link" "model.txt:7: refused 3 at tick 0, record 3: main could not do 'wait first(q)':\
+ the first in q was a, a process, and 'wait' takes a head"
+model <<< $'    into a q\n    follow c q\n    precede b q\n    out a\n    wait first(q)\na:\n    end\nb:\n    end'
+refused "links beside a head" "model.txt:9: refused 3 at tick 0, record 5: main could not do 'wait first(q)':\
+ the first in q was c, a link, and 'wait' takes a head"
 model <<< $'    follow first(q) c\na:\n    end\nb:\n    end'
 refused "nobody in the queue" "model.txt:5: refused 3 at tick 0, record 1: main could not do 'follow first(q) c': q was empty" \
     "  ask first: 'if empty q goto LABEL'"
+model <<< $'    into c q\n    into a q\n    into b q\n    activate first_process(q)\n    hold 5\na:\n    out first(r)\nb:\n    end'
+refused "the first process, behind a link" "model.txt:11: refused 3 at tick 0, record 6: a could not do 'out first(r)': r was empty" \
+    "  ask first: 'if empty r goto LABEL'"
+model <<< $'    into c q\n    into a q\n    activate a delay 5\n    activate b before first_process(q)\n    passivate
+a:\n    end\nb:\n    cancel first_process(q)\n    passivate'
+refused "cancel of the first process, and before it" "model.txt:14: refused 4 at tick 5, record 7: b could not do 'passivate':\
+ nobody else is scheduled, and nobody could go on" "  idle: main, a (in q)" "  $stay"
+model <<< $'    into c q\n    activate first_process(q)\n    cancel first_process(q)\n    activate a before first_process(q)
+    reactivate main after first_process(q)\na, b:\n    end'
+refused "no process in the queue" "model.txt:9: refused 4 at tick 0, record 5: main could not do 'reactivate main after first_process(q)':\
+ nobody else is scheduled, and nobody could go on" "  idle: a, b" "  $stay"
 model <<< $'    wait q\na:\n    end\nb:\n    end'
 refused "the last one waits" "model.txt:5: refused 4 at tick 0, record 1: main could not do 'wait q':\
  nobody else is scheduled, and nobody could go on" "  idle: a, b" "  $stay"

@@ -2,10 +2,10 @@
 
 use super::declare::LISTS;
 use crate::nearest::nearest;
-use crate::operations::{self, Part, TABLE};
+use crate::operations::{self, Part, FIRST, FIRST_PROCESS, TABLE};
 
 /// Words of the language beside those of the table of operations and of the lists.
-const WORDS: [&str; 6] = ["from", "goto", "end", "none", "current", "first"];
+const WORDS: [&str; 7] = ["from", "goto", "end", "none", "current", FIRST, FIRST_PROCESS];
 
 /// What newcomers write, and the word of the language for it.
 const ELSEWHERE: &[(&str, &str)] = &[

@@ -30,7 +30,7 @@ pub fn judge(read: &Statement, place: Place, declared: &Declared, report: &mut R
     }
 }
 
-/// Whether the operand can be of the kind that its step takes.
+/// Whether the operand can be of the kind that its step takes. The first process of a queue, or none, always is.
 fn can_be(value: u32, wants: Wants, declared: &Declared) -> bool {
     match value {
         CURRENT => Kind::Process.will_do(wants),

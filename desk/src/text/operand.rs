@@ -1,17 +1,19 @@
-//! Operands of a statement: a name, a range of names, none, current or first(HEAD).
+//! Operands of a statement: a name, a range of names, none, current, first(HEAD) or first_process(HEAD).
 
 use super::hints::is_reserved;
 use super::range;
 use super::statement::Reader;
 use super::token::Placed;
 use crate::names::{names_between, Names};
-use crate::nearest::meant;
-use crate::operations::{Part, Wants};
+use crate::nearest::nearest;
+use crate::operations::{Part, Wants, FIRST, FIRST_PROCESS};
 use crate::report::Place;
 use crate::sheet::{Kind, Record, CURRENT};
 
 /// Words of the language that are operands, or begin one.
-const OWN: [&str; 3] = ["none", "current", "first"];
+const OWN: [&str; 4] = ["none", "current", FIRST, FIRST_PROCESS];
+/// The statements that ask for a process.
+const PROCESSES: &str = "only 'cancel', 'activate' and 'reactivate' take 'first_process(HEAD)'";
 
 impl Reader<'_> {
     /// The first operand, which may be a range: a record for each of its names.
@@ -46,7 +48,7 @@ impl Reader<'_> {
         self.read.records = records;
     }
 
-    /// A name, none, current or first(HEAD); nothing if the line cannot be read on.
+    /// A name, none, current, first(HEAD) or first_process(HEAD); nothing if the line cannot be read on.
     pub(super) fn operand(&mut self, wants: Wants) -> Option<u32> {
         let here = &self.line.tokens[self.at];
         let own = |word: &str| OWN.contains(&word) || self.declared.find(word).is_some();
@@ -58,7 +60,7 @@ impl Reader<'_> {
         let value = match word {
             "none" => Some(0),
             "current" => Some(CURRENT),
-            "first" => self.first(),
+            FIRST | FIRST_PROCESS => self.first(word, here.place, wants),
             name => match self.declared.find(name) {
                 Some(named) => Some(self.declared.number(named)),
                 None => self.unknown(name, here.place, wants),
@@ -71,7 +73,7 @@ impl Reader<'_> {
     /// A word that is no name: last(goods) is told as what it is.
     fn unknown(&mut self, name: &str, place: Place, wants: Wants) -> Option<u32> {
         if self.line.tokens.get(self.at).is_some_and(|mark| mark.is("(")) {
-            self.report.error(place, format!("expected 'first' before '(', found '{name}'"));
+            self.report.error(place, format!("expected '{}' before '(', found '{name}'", wants.first()));
             return None;
         }
         self.no_name(name, place, wants);
@@ -86,37 +88,52 @@ impl Reader<'_> {
         }
     }
 
-    /// Behind 'first': the name of a head in parentheses.
-    fn first(&mut self) -> Option<u32> {
-        self.mark("(")?;
+    /// Behind 'first' or 'first_process': a head in parentheses. The statement says which of the two it takes; older texts have 'first' for
+    /// both.
+    fn first(&mut self, word: &str, place: Place, wants: Wants) -> Option<u32> {
+        let other = word != wants.first();
+        if other && word == FIRST_PROCESS {
+            self.report.error(place, format!("{PROCESSES}; 'first(HEAD)' is the first member"));
+        }
+        let head = self.head(word, wants)?;
+        if other && word == FIRST && head > 0 {
+            let write = format!("{FIRST_PROCESS}({})", self.declared.name_of(head));
+            let means = "here this means the first process of the queue, not its first member";
+            self.report.warning(place, format!("{means}: write '{write}'"));
+        }
+        Some(if head > 0 { CURRENT + head } else { 0 })
+    }
+
+    /// The head behind one of these words, 0 if it is none; nothing if the line cannot be read on.
+    fn head(&mut self, word: &str, wants: Wants) -> Option<u32> {
+        self.mark("(", wants)?;
         let place = self.here();
         let may_stand = |word: &&str| !is_reserved(word) || self.declared.find(word).is_some();
         let Some(name) = self.line.tokens.get(self.at).and_then(Placed::word).filter(may_stand) else {
-            let words = format!("expected the name of a head behind 'first(', found {}", self.found());
+            let words = format!("expected the name of a head behind '{word}(', found {}", self.found());
             self.report.error(place, words);
             return None;
         };
         self.at += 1;
-        match self.declared.find(name) {
-            Some(named) if named.kind == Kind::Head => {
-                self.mark(")")?;
-                return Some(CURRENT + named.index);
-            }
-            Some(named) => self.report.error(place, format!("'{name}' is {}: 'first' takes a head", named.is())),
+        let named = self.declared.find(name);
+        match named {
+            Some(named) if named.kind == Kind::Head => {}
+            Some(named) => self.report.error(place, format!("'{name}' is {}: '{word}' takes a head", named.is())),
             None => self.no_name(name, place, Wants::Head),
         }
-        self.mark(")")?;
-        Some(0)
+        self.mark(")", wants)?;
+        Some(named.filter(|named| named.kind == Kind::Head).map_or(0, |head| head.index))
     }
 
-    /// One of the marks around the head of 'first'.
-    fn mark(&mut self, mark: &str) -> Option<()> {
+    /// One of the marks around that head.
+    fn mark(&mut self, mark: &str, wants: Wants) -> Option<()> {
         if self.line.tokens.get(self.at).is_some_and(|token| token.is(mark)) {
             self.at += 1;
             return Some(());
         }
         let before = self.line.tokens.get(self.at.wrapping_sub(1)).and_then(Placed::word).unwrap_or("");
-        let words = format!("expected '{mark}' behind '{before}', as in first(goods), found {}", self.found());
+        let form = format!("{}(goods)", wants.first());
+        let words = format!("expected '{mark}' behind '{before}', as in {form}, found {}", self.found());
         self.report.error(self.here(), words);
         None
     }
@@ -129,8 +146,9 @@ impl Reader<'_> {
             return self.report.follow_up();
         }
         let mut hint = self.declared.like(name, &kinds);
-        if hint.is_empty() {
-            hint = meant(name, OWN.into_iter());
+        if let Some(own) = nearest(name, OWN.into_iter()).filter(|_| hint.is_empty()) {
+            let own = if own.starts_with(FIRST) { wants.first() } else { own };
+            hint = format!("; did you mean '{own}'?");
         }
         self.report.error(place, format!("no head, process or link is named '{name}'{hint}"));
     }

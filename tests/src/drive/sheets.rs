@@ -7,7 +7,7 @@ use super::print::difference;
 use super::tally::Tally;
 use crate::gen::shown::ShownSource;
 use crate::gen::texts;
-use crate::sim::sheet::{self, Sheet};
+use crate::sim::sheet;
 
 /// The sheet, its text, and the sheet built from the text.
 const SHEET: &str = "model.sheet";
@@ -32,7 +32,8 @@ fn one(desk: &Desk, bytes: &[u8]) -> Result<(), String> {
     match sheet::decode(bytes) {
         Ok(sheet) => {
             accepted(desk, bytes)?;
-            written(desk, &sheet, bytes)
+            up_to_date("build of a text written apart", &written(desk, &texts::text(&sheet, false), bytes)?)?;
+            written(desk, &texts::text(&sheet, true), bytes).map(|_| ())
         }
         Err(_) => refused(&desk.start(&["show", SHEET])?),
     }
@@ -42,7 +43,9 @@ fn one(desk: &Desk, bytes: &[u8]) -> Result<(), String> {
 fn accepted(desk: &Desk, bytes: &[u8]) -> Result<(), String> {
     let text = shown(desk, SHEET)?;
     desk.write(TEXT, &text)?;
-    done("check", &desk.start(&["check", TEXT])?)?;
+    let checked = desk.start(&["check", TEXT])?;
+    done("check", &checked)?;
+    up_to_date("check", &checked)?;
     done("build", &desk.start(&["build", TEXT, AGAIN])?)?;
     let again = desk.read(AGAIN)?;
     if again != bytes {
@@ -59,16 +62,23 @@ fn accepted(desk: &Desk, bytes: &[u8]) -> Result<(), String> {
     Ok(())
 }
 
-/// The text that is written here builds the sheet.
-fn written(desk: &Desk, sheet: &Sheet, bytes: &[u8]) -> Result<(), String> {
-    desk.write(TEXT, texts::text(sheet).as_bytes())?;
+/// A text that is written here builds the sheet; what is said of it is the answer.
+fn written(desk: &Desk, text: &str, bytes: &[u8]) -> Result<Ended, String> {
+    desk.write(TEXT, text.as_bytes())?;
     desk.remove(&[AGAIN, AGAIN_MAP]);
-    done("build of a text written apart", &desk.start(&["build", TEXT, AGAIN])?)?;
+    let ended = desk.start(&["build", TEXT, AGAIN])?;
+    done("build of a text written apart", &ended)?;
     let built = desk.read(AGAIN)?;
     if built == bytes {
-        return Ok(());
+        return Ok(ended);
     }
-    Err(format!("a text written apart builds other bytes: {}\n{}", first_other(bytes, &built), texts::text(sheet)))
+    Err(format!("a text written apart builds other bytes: {}\n{text}", first_other(bytes, &built)))
+}
+
+/// No warning that an older word stands in the text.
+fn up_to_date(what: &str, ended: &Ended) -> Result<(), String> {
+    let old = ended.err.lines().find(|line| line.contains("first_process"));
+    old.map_or(Ok(()), |line| Err(format!("{what}: {line}")))
 }
 
 /// What show prints, with nothing on standard error.

@@ -5,8 +5,9 @@ use crate::sim::model::Counts;
 use crate::sim::sheet::{Record, Sheet, CURRENT};
 use std::fmt::Write;
 
-/// A text with one body for all processes, a label before each record, and a goto or an end behind each.
-pub fn text(sheet: &Sheet) -> String {
+/// A text with one body for all processes, a label before each record, and a goto or an end behind each. An old one has 'first' for the
+/// first process of a queue too.
+pub fn text(sheet: &Sheet, old: bool) -> String {
     let counts = sheet.counts;
     let mut out = String::new();
     for (word, first, size) in kinds(counts).into_iter().filter(|kind| kind.2 > 0) {
@@ -18,7 +19,7 @@ pub fn text(sheet: &Sheet) -> String {
     let owners: Vec<String> = sheet.starts.iter().enumerate().map(begins).collect();
     let _ = writeln!(out, "{}:", owners.join(", "));
     for (record, number) in sheet.records.iter().zip(1..) {
-        let _ = writeln!(out, "  {}: {}", label(number), statement(counts, record));
+        let _ = writeln!(out, "  {}: {}", label(number), statement(counts, record, old));
         match record.next {
             0 => out.push_str("  end\n"),
             next => {
@@ -55,18 +56,21 @@ fn name(counts: Counts, number: u32) -> String {
     }
 }
 
-fn operand(counts: Counts, value: u32) -> String {
+fn operand(counts: Counts, value: u32, first: &str) -> String {
     match value.checked_sub(CURRENT) {
         None => name(counts, value),
         Some(0) => "current".to_string(),
-        Some(head) => format!("first({})", name(counts, head)),
+        Some(head) => format!("{first}({})", name(counts, head)),
     }
 }
 
 /// The record in the words of the page.
-fn statement(counts: Counts, r: &Record) -> String {
-    let (x, y, t) = (|| operand(counts, r.x), || operand(counts, r.y), r.t);
-    match u32::from(r.operation) {
+fn statement(counts: Counts, r: &Record, old: bool) -> String {
+    let operation = u32::from(r.operation);
+    let process = matches!(operation, op::CANCEL | op::ACTIVATE | op::REACTIVATE);
+    let first = if process && !old { "first_process" } else { "first" };
+    let (x, y, t) = (|| operand(counts, r.x, first), || operand(counts, r.y, first), r.t);
+    match operation {
         op::OUT => format!("out {}", x()),
         op::FOLLOW => format!("follow {} {}", x(), y()),
         op::PRECEDE => format!("precede {} {}", x(), y()),
