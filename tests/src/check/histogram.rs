@@ -1,8 +1,10 @@
 //! Which calls and refusals the generated streams come to.
 
+use super::reached::Reached;
 use crate::drive::tally::Tally;
 use crate::expected::expected;
 use crate::gen::run_lists::lists;
+use crate::gen::special;
 use crate::gen::stream::{all_calls, Stream};
 use crate::protocol::Request;
 use crate::rng::Rng;
@@ -101,16 +103,24 @@ fn run_lists(tally: &mut Tally, seed: u64) {
     let mut rng = Rng::new(seed);
     let mut met = Histogram::new();
     let mut lines = 0;
-    for mut list in lists(&mut rng, 600, true) {
+    let mut reached = Reached::default();
+    let by_hand = special::all().len();
+    for (number, mut list) in lists(&mut rng, 600, true).into_iter().enumerate() {
+        let mut continued = false;
         while list.goes_on() {
             let response = expected(&list.next(&mut rng));
             list.go_on_from(&response.lent);
             lines += u64::from(response.lines);
             *met.entry(op::RUN).or_default().entry(response.code).or_default() += 1;
+            if number >= by_hand {
+                reached.follow(&mut list, &response, continued);
+            }
+            continued = true;
         }
     }
     print("runs", &met);
     println!("lines of all runs: {lines}");
+    reached.check_each(tally);
     let got: Vec<u32> = met.values().flat_map(|row| row.keys().copied()).collect();
     tally.check(got == [0, 1, 3, 4, 5, 7, 200], &format!("run lists came to codes {got:?}"));
 }

@@ -2,6 +2,8 @@
 
 pub mod catches;
 pub mod histogram;
+pub mod queues;
+pub mod reached;
 pub mod readings;
 pub mod scene;
 pub mod situations;
@@ -14,6 +16,8 @@ pub fn all(seed: u64) -> bool {
     let mut tally = Tally::new("self", u64::MAX);
     situations::check(&mut tally);
     readings::check(&mut tally);
+    queues::check(&mut tally);
+    reached::check(&mut tally);
     sound::check(&mut tally, seed);
     histogram::check(&mut tally, seed);
     tally.close()

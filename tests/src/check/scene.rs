@@ -2,10 +2,13 @@
 //! order, the members of head 1, the terminated. M is main; A, B, C are processes; K, Q plain links.
 
 use crate::drive::tally::Tally;
-use crate::expected::expected;
-use crate::protocol::{Lent, Request};
-use crate::sim::call::Call;
+use crate::expected::{expected, write_run};
+use crate::protocol::{Lent, Request, Response};
+use crate::sim::accum::{Accum, MOST};
+use crate::sim::call::{number, Call};
 use crate::sim::model::{Counts, Model, Notice};
+use crate::sim::run::{Run, LINE};
+use crate::sim::sheet::{Record, Sheet, CURRENT};
 use crate::sim::tables::{decode, encode};
 
 pub const COUNTS: Counts = Counts { heads: 1, processes: 4, plain: 2 };
@@ -57,14 +60,51 @@ pub fn outcome(scene: &str, call: Call) -> String {
     let response = expected(&Request { call, counts: COUNTS, lent, sheet: Vec::new() });
     let unchanged = response.lent.tables == tables;
     match (response.code, response.answer) {
-        (0, 0) => decode(COUNTS, &response.lent.tables).map_or("damaged".to_string(), |m| text(&m)),
+        (0, 0) => text_after(&response),
         (0, answer) if unchanged => format!("answer {answer}"),
         (code, 0) if unchanged => format!("refused {code}"),
         _ => "changed by a refused call or a query".to_string(),
     }
 }
 
-/// Counts one such check.
+/// The scene that a call leaves.
+fn text_after(response: &Response) -> String {
+    decode(COUNTS, &response.lent.tables).map_or("damaged".to_string(), |m| text(&m))
+}
+
+/// A record in writing, as a call; F is 65,536 + 1, * is current.
+pub fn record(number: u32, x: &str, y: &str, clause: u32, t: i64) -> Record {
+    let operand = |name: &str| match name {
+        "F" => CURRENT + 1,
+        "*" => CURRENT,
+        name => linkage(name),
+    };
+    let (x, y) = (operand(x), operand(y));
+    Record { operation: number as u8, clause: clause as u8, x, y, t, ..Record::default() }
+}
+
+/// What the step of current comes to in a run where all stand at this record: "refused 4", or the scene after it.
+fn stepped(scene: &str, record: Record) -> String {
+    let positions = vec![1; COUNTS.processes as usize];
+    let sheet = Sheet { counts: COUNTS, starts: positions.clone(), records: vec![record] };
+    let mut lent = Lent { trace: vec![0; LINE], ..Lent::default() };
+    write_run(&Run { model: model(scene), positions, accums: vec![Accum::default(); MOST] }, &mut lent);
+    let request = Request { call: Call::new(number::RUN), counts: COUNTS, lent, sheet: sheet.encode() };
+    let response = expected(&request);
+    match response.lines {
+        1 => text_after(&response),
+        0 if response.lent == request.lent => format!("refused {}", response.code),
+        _ => "changed by a refused step".to_string(),
+    }
+}
+
+/// Counts one check of a step.
+pub fn step(tally: &mut Tally, name: &str, scene: &str, record: Record, wanted: &str) {
+    let got = stepped(scene, record);
+    tally.check(got == wanted, &format!("{name}: from {scene}, {record:?}: wanted {wanted}, got {got}"));
+}
+
+/// Counts one check of a call.
 pub fn row(tally: &mut Tally, name: &str, scene: &str, call: Call, wanted: &str) {
     let got = outcome(scene, call);
     tally.check(got == wanted, &format!("{name}: from {scene}, {call:?}: wanted {wanted}, got {got}"));

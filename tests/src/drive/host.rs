@@ -4,10 +4,10 @@
 use super::child::Program;
 use super::report::sheet_text;
 use super::tally::Tally;
-use crate::gen::{buffers, runs, sheet_damage, sheets, special};
+use crate::gen::{buffers, queue_cases, runs, sheet_damage, sheets, special};
 use crate::rng::Rng;
-use crate::sim::run::Run;
-use crate::sim::sheet;
+use crate::sim::run::{Run, MAX_TRACE};
+use crate::sim::sheet::{self, Sheet};
 
 /// Inputs for one start of the program.
 const GROUP: u64 = 200;
@@ -18,16 +18,18 @@ struct Input {
     trace: Vec<u8>,
 }
 
-/// Compares the answers to the sweep of buffers, then to so many inputs.
+/// Compares the answers to the sweep of buffers and the queues, then to so many inputs.
 pub fn drive(program: &Program, count: u64, seed: u64) -> bool {
     let mut tally = Tally::new("host", 5_000);
     let mut rng = Rng::new(seed);
+    let queues = queue_cases::all().into_iter().map(|sheet| (sheet, MAX_TRACE));
     let sweep: Vec<Input> = buffers::all()
-        .iter()
-        .map(|(sheet, length)| Input { sheet: sheet.encode(), trace: rng.bytes(*length) })
+        .into_iter()
+        .chain(queues)
+        .map(|(sheet, length)| Input { sheet: sheet.encode(), trace: rng.bytes(length) })
         .collect();
     sweep.chunks(GROUP as usize).for_each(|inputs| group(program, inputs, &mut tally));
-    let mut by_hand: Vec<Vec<u8>> = special::all().iter().map(|sheet| sheet.encode()).collect();
+    let mut by_hand = special::all();
     let mut done = 0;
     while done < count && !tally.failed() {
         let some = GROUP.min(count - done);
@@ -39,19 +41,21 @@ pub fn drive(program: &Program, count: u64, seed: u64) -> bool {
 }
 
 /// A sheet built by hand, a random one, a damaged one, or random bytes; with any trace buffer.
-fn input(rng: &mut Rng, by_hand: Option<Vec<u8>>) -> Input {
-    let sheet = by_hand.unwrap_or_else(|| match rng.below(20) {
-        0..=3 => {
+fn input(rng: &mut Rng, by_hand: Option<Sheet>) -> Input {
+    let (sheet, length) = match (by_hand, rng.below(20)) {
+        (None, 0..=3) => {
             let sheet = sheets::any(rng);
-            sheet_damage::any(rng, sheet).1
+            (sheet_damage::any(rng, sheet).1, runs::buffer(rng))
         }
-        4 => {
+        (None, 4) => {
             let length = rng.pick(&[0, 1, 15, 16, 17, 44, 1000]);
-            rng.bytes(length)
+            (rng.bytes(length), runs::buffer(rng))
         }
-        _ => sheets::any(rng).encode(),
-    });
-    let length = runs::buffer(rng);
+        (by_hand, _) => {
+            let sheet = by_hand.unwrap_or_else(|| sheets::any(rng));
+            (sheet.encode(), runs::first_buffer(rng, &sheet))
+        }
+    };
     Input { sheet, trace: rng.bytes(length) }
 }
 

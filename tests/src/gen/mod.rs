@@ -7,6 +7,8 @@ pub mod extreme;
 pub mod models;
 pub mod operands;
 pub mod prints;
+pub mod queue_cases;
+pub mod queues;
 pub mod records;
 pub mod ring_damage;
 pub mod run_lists;

@@ -1,11 +1,14 @@
 //! Lists of run calls over one sheet, each going on from what the last one left.
 
-use super::{buffers, runs, sheets, special};
+use super::{buffers, queue_cases, queues, runs, sheets, special};
 use crate::protocol::{Lent, Request};
 use crate::rng::Rng;
 use crate::sim::call::number;
-use crate::sim::run::{Run, LINE};
+use crate::sim::run::{Run, LINE, MAX_TRACE};
 use crate::sim::sheet::Sheet;
+
+/// So many pieces are cut from the run of a queue.
+const PIECES: usize = 40;
 
 /// A sheet and its run, so far.
 pub struct RunList {
@@ -28,7 +31,8 @@ impl RunList {
 
     /// With buffers of any lengths.
     fn any(rng: &mut Rng, sheet: Sheet) -> RunList {
-        let buffers = (0..rng.between(3, 14)).map(|_| runs::buffer(rng)).collect();
+        let mut buffers: Vec<usize> = (0..rng.between(2, 13)).map(|_| runs::buffer(rng)).collect();
+        buffers.push(runs::first_buffer(rng, &sheet));
         RunList::new(sheet, buffers)
     }
 
@@ -55,9 +59,22 @@ impl RunList {
     }
 }
 
-/// Three calls with each buffer where one line more comes to fit.
+/// Three calls with each buffer where one line more comes to fit; then the queues.
 pub fn sweep() -> Vec<RunList> {
-    buffers::all().into_iter().map(|(sheet, length)| RunList::new(sheet, vec![length; 3])).collect()
+    let lengths = buffers::all().into_iter().map(|(sheet, length)| RunList::new(sheet, vec![length; 3]));
+    lengths.chain(queue_lists()).collect()
+}
+
+/// Each queue built by hand in one call, and cut into pieces of a few lines once it is filled.
+pub fn queue_lists() -> Vec<RunList> {
+    let mut lists = Vec::new();
+    for sheet in queue_cases::all() {
+        let filled = LINE * queues::filling(&sheet);
+        let pieces = [5, 2, 1, 3, 8].map(|lines| LINE * lines).into_iter().cycle().take(PIECES);
+        let cut = [MAX_TRACE].into_iter().chain(pieces).chain([filled]).collect();
+        lists.extend([RunList::new(sheet.clone(), vec![MAX_TRACE]), RunList::new(sheet, cut)]);
+    }
+    lists
 }
 
 /// So many lists; the first ones of all are over the sheets built by hand.

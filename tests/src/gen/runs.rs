@@ -1,13 +1,14 @@
 //! Run calls: buffers of odd lengths, runs under way, damage to what a run is lent.
 
+use super::queues::filling;
 use super::{accums, damage, sheet_damage, sheets, Case};
 use crate::expected::write_run;
 use crate::protocol::{Lent, Request};
 use crate::rng::Rng;
 use crate::sim::accum::MOST;
 use crate::sim::call::{number, Call};
-use crate::sim::model::Counts;
-use crate::sim::run::Run;
+use crate::sim::model::{Counts, Model};
+use crate::sim::run::{Run, LINE, MAX_TRACE};
 use crate::sim::sheet::Sheet;
 
 /// Trace lengths around a line, around several, and around the limit.
@@ -22,6 +23,16 @@ pub fn buffer(rng: &mut Rng) -> usize {
         2 | 3 => rng.pick(TOO_LONG),
         4..=20 => rng.pick(MIDDLING),
         _ => rng.pick(SHORT),
+    }
+}
+
+/// A buffer for a fresh run; it has room for the steps that fill a queue as well.
+pub fn first_buffer(rng: &mut Rng, sheet: &Sheet) -> usize {
+    let length = buffer(rng);
+    if length > MAX_TRACE {
+        length
+    } else {
+        (length + LINE * filling(sheet)).min(MAX_TRACE)
     }
 }
 
@@ -46,7 +57,7 @@ pub fn request(rng: &mut Rng, sheet: Vec<u8>, counts: Counts, lent: Lent) -> Req
 /// A run of the sheet after some steps.
 fn under_way(rng: &mut Rng, sheet: &Sheet) -> Run {
     let mut run = Run::fresh(sheet);
-    for _ in 0..rng.below(60) {
+    for _ in 0..filling(sheet) + rng.index(60) {
         if run.turn(sheet, usize::MAX).is_err() {
             break;
         }
@@ -113,14 +124,29 @@ pub fn check(rng: &mut Rng) -> Case {
     Case { request, note }
 }
 
-/// Good runs that no sheet leads to: any positions, accumulators of any kind.
+/// Good runs that no sheet leads to: any positions, accumulators of any kind, all links in one queue.
 fn vary(rng: &mut Rng, sheet: &Sheet, run: &mut Run) {
+    if rng.chance(5) {
+        crowd(rng, &mut run.model);
+    }
     if rng.chance(15) {
         run.accums = accums::list(rng, MOST, run.model.time());
     }
     if rng.chance(10) {
         run.positions.iter_mut().for_each(|p| *p = rng.between(0, sheet.size()));
     }
+}
+
+/// Every plain link goes into one queue, and some processes stand behind them.
+fn crowd(rng: &mut Rng, model: &mut Model) {
+    let c = model.counts;
+    if c.heads == 0 {
+        return;
+    }
+    let behind = rng.between(0, c.processes.min(3));
+    let queue = (c.process(c.processes) + 1..=c.total()).chain((1..=behind).map(|p| c.process(p)));
+    model.sets.iter_mut().for_each(Vec::clear);
+    model.sets[rng.index(c.heads as usize)] = queue.collect();
 }
 
 /// Damage to the model's tables; with it at times a trace above the limit.

@@ -1,5 +1,6 @@
 //! Good sheets: a body of records for each process, chained, often looping, at times shared.
 
+use super::queues;
 use super::records::{record, Style};
 use crate::rng::Rng;
 use crate::sim::call::number as op;
@@ -7,8 +8,19 @@ use crate::sim::model::{Counts, LIMIT, MAX_HEADS, MAX_PLAIN, MAX_PROCESSES};
 use crate::sim::run::Run;
 use crate::sim::sheet::{Record, Sheet, MAX_RECORDS};
 
+/// So many sheets in a hundred are about a queue.
+const QUEUES: u64 = 12;
+
 /// A good sheet, mostly one that goes on for a while and has notices that meet.
 pub fn any(rng: &mut Rng) -> Sheet {
+    let mut sheet = if rng.chance(QUEUES) { queues::any(rng) } else { ordinary(rng) };
+    if rng.chance(25) {
+        renumber(rng, &mut sheet);
+    }
+    sheet
+}
+
+fn ordinary(rng: &mut Rng) -> Sheet {
     for _ in 0..12 {
         let sheet = one(rng);
         if rng.chance(5) || lively(&sheet) {
@@ -47,11 +59,7 @@ fn one(rng: &mut Rng) -> Sheet {
         let first = &mut records[starts[0] as usize - 1];
         *first = Record { next: first.next, operation: op::HOLD as u8, t: base as i64, ..Record::default() };
     }
-    let mut sheet = Sheet { counts, starts, records };
-    if rng.chance(25) {
-        renumber(rng, &mut sheet);
-    }
-    sheet
+    Sheet { counts, starts, records }
 }
 
 /// Small counts mostly; a sheet without plain links has only processes in its sets.

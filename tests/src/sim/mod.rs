@@ -1,10 +1,11 @@
-//! The plain list simulator, written from document 01 and its readings alone.
+//! The plain list simulator, written from documents 01 and 02 and their readings alone.
 //! It knows lists of links and of notices; tables are only read into lists and written from them.
 
 pub mod accum;
 pub mod activation;
 pub mod call;
 pub mod model;
+pub mod operand;
 pub mod print;
 pub mod run;
 pub mod sequencing;

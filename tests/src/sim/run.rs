@@ -3,7 +3,8 @@
 use super::accum::{update_numbered, Accum, MOST};
 use super::call::{number, Call};
 use super::model::{require, Model, Refusal};
-use super::sheet::{Record, Sheet, CURRENT};
+use super::operand::Field;
+use super::sheet::{Record, Sheet};
 use crate::mutations::{on, M};
 
 /// Bytes of one trace line.
@@ -123,7 +124,7 @@ impl Run {
         let r = sheet.record(record);
         match u32::from(r.operation) {
             number::EMPTY => {
-                let empty = self.model.empty(self.operand(r.x))?;
+                let empty = self.model.empty(self.model.operand(r.operation, Field::X, r.x))?;
                 Ok(if empty != on(M::BranchTurned) { r.y } else { r.next })
             }
             number::ACCUM => {
@@ -136,24 +137,15 @@ impl Run {
 
     /// Operands are resolved before anything moves.
     fn call(&mut self, r: Record) -> Result<(), Refusal> {
-        let (x, mut y) = (self.operand(r.x), self.operand(r.y));
+        let x = self.model.operand(r.operation, Field::X, r.x);
+        let mut y = self.model.operand(r.operation, Field::Y, r.y);
         if on(M::FirstReadLate) && (2..=4).contains(&r.operation) && self.model.counts.is_link(x) {
-            let mut later = self.clone();
-            later.model.unlink(x);
-            y = later.operand(r.y);
+            let mut later = self.model.clone();
+            later.unlink(x);
+            y = later.operand(r.operation, Field::Y, r.y);
         }
         let call = Call { number: u32::from(r.operation), clause: u32::from(r.clause), x, y, t: r.t };
         self.model.make(call).map(|_| ())
-    }
-
-    /// A linkage or none, current, or the first member of head h.
-    fn operand(&self, value: u32) -> u32 {
-        let heads = self.model.counts.heads;
-        match value.checked_sub(CURRENT) {
-            Some(0) => self.model.current(),
-            Some(h) if h <= heads => self.model.first_of(h),
-            _ => value,
-        }
     }
 
     /// Goes on over one trace buffer. Gives the end and the number of lines.

@@ -5,7 +5,7 @@ use super::sheet_rules;
 use crate::mutations::{on, M};
 
 pub const MAX_RECORDS: u32 = 2_000;
-/// The operand that means current; above it by h, the first member of head h.
+/// The operand that means current; above it by h, the first member of head h, or the first that is a process.
 pub const CURRENT: u32 = 65_536;
 
 /// One record of 24 bytes.

@@ -9,7 +9,7 @@ use crate::mutations::{on, M};
 pub enum Use {
     /// Holds 0.
     Unused,
-    /// A linkage, none, current or a first member.
+    /// A linkage, none, current or a first member or process.
     Operand,
     /// A record number or 0.
     Record,
@@ -76,7 +76,7 @@ fn field_keeps(sheet: &Sheet, used: Use, value: u32) -> bool {
     }
 }
 
-/// 0 to N, or current, or the first member of head h, h from 1 to H.
+/// 0 to N, or current, or 65,536 + h for one of head h's members, h from 1 to H.
 pub fn in_operand_range(sheet: &Sheet, value: u32) -> bool {
     value <= sheet.counts.total() || (CURRENT..=CURRENT + sheet.counts.heads).contains(&value)
 }
