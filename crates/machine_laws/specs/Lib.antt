@@ -6,3 +6,4 @@ pub mod HistoryLaw
 pub mod Invariant
 pub mod TurnCases
 pub mod GoesFirst
+pub mod FirstProcess
