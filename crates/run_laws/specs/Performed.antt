@@ -72,6 +72,10 @@ pub record Performed : Type 0 where
   pub words : List ℤ
   pub effect : Effect
 
+-- a function that is lent no accumulators leaves these tables and comes to this, whatever the words are
+abbrev pub Leaves : (List ℤ → Performed) → Tables → Effect → Type 0
+Leaves made t e = (w : List ℤ) → record { tables = t; words = w; effect = e } ≡ made w
+
 -- the call of a record, or of the one that stands for finish, where current is at place f
 unfoldable pub performed : Counts → Record → ℕ → Tables → List ℤ → Performed
 performed c q f t w =

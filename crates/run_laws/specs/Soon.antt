@@ -11,7 +11,6 @@ use Rattle.model_laws.specs.Tables.{Tables, modelOf}
 use Rattle.model_laws.specs.Now.{half}
 use Rattle.simset_laws.specs.Calls.{orNone}
 use Rattle.simset_laws.specs.Promise.{failed, passed}
-use Rattle.simulation_laws.specs.Procedures.{Sqs}
 use Rattle.simulation_laws.specs.Promise.{sqs, Answers}
 use Rattle.simulation_laws.specs.Calls.{timedStep}
 use Rattle.sheet.specs.declared.records.Record.{Record}

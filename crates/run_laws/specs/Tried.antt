@@ -82,9 +82,9 @@ module _ (c : Counts) (q : Record) (f : ℕ) (links : List ℕ) where
       rw (← e, ne-eqb o 1 a, ne-eqb o 4 b, ne-eqb o 6 d, ne-eqb o 8 k, ne-eqb o 10 m, ne-eqb o 12 g, ne-eqb o 13 h)
 
   -- what is left may be made apart
-  left-apart-of : left c q f links ≡ true → apart q ≡ true
+  apart-as-left : left c q f links ≡ true → apart q ≡ true
   unfolding left apart
-  left-apart-of l =
+  apart-as-left l =
       test (eqb (q .operation) 10)
       (λ e. ap (λ (o : ℕ). not (madeHere o)) (eqb-true (q .operation) 10 e))
       (λ e. rw e at l)
@@ -177,5 +177,5 @@ module _ (c : Counts) (q : Record) (f : ℕ) (t : Tables) (w : List ℤ) where
     unfolding tried
     left-of e =
         test (left c q f (t .links))
-        (λ a. (left-apart-of c q f (t .links) a, ap (λ (p : Performed). p .tables) (rw a at is), ap (λ (p : Performed). p .words) (rw a at is)))
+        (λ a. (apart-as-left c q f (t .links) a, ap (λ (p : Performed). p .tables) (rw a at is), ap (λ (p : Performed). p .words) (rw a at is)))
         (λ a. let z : true ≡ false = sym e ∙ (rw a at told) ∙ made-here in clash (sym z))

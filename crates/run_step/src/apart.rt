@@ -15,14 +15,12 @@ use simulation::steps::passivate;
 ghost use mathlib.Core.Path.{_≡_};
 ghost use mathlib.Core.Logic.{_≢_};
 ghost use mathlib.Core.Bool.{true};
-ghost use mathlib.Core.List.{List};
-ghost use lib.IntN.{ℤ};
 ghost use Rattle.model_laws.specs.Ready.{Ready};
 ghost use Rattle.model_laws.specs.Tables.{modelOf};
 ghost use Rattle.sheet.specs.Sheet.{recordOffset, recordFrom};
 ghost use Rattle.run_laws.specs.Needs.{Callable};
 ghost use Rattle.run_laws.specs.Run.{recordGot};
-ghost use Rattle.run_laws.specs.Performed.{verdictBy, goesTo, performed};
+ghost use Rattle.run_laws.specs.Performed.{verdictBy, goesTo, Leaves, performed};
 ghost use Rattle.run_laws.specs.Tried.{apart};
 
 // Whether a call was refused.
@@ -64,14 +62,9 @@ fn apart_at(
 ) -> Effect
     requires { ⌜ Callable c (now sheet) i f (modelOf (now links) (now axis) (now times) (now marks)) ⌝ }
     requires { ⌜ apart (recordFrom (now sheet) i) ≡ true ⌝ }
-    ensures { λ r. ⌜ ((w : List ℤ) → record {
-      tables = modelOf (now (links .exit)) (now (axis .exit)) (now (times .exit))
-          (now (marks .exit));
-      words = w;
-      effect = r;
-    }
-        ≡ performed c (recordFrom (now (sheet .entry)) i) f (modelOf (now (links .entry)) (now (axis .entry)) (now (times .entry))
-        (now (marks .entry))) w) ⌝ }
+    ensures { λ r. ⌜ Leaves (performed c (recordFrom (now (sheet .entry)) i) f
+        (modelOf (now (links .entry)) (now (axis .entry)) (now (times .entry)) (now (marks .entry))))
+        (modelOf (now (links .exit)) (now (axis .exit)) (now (times .exit)) (now (marks .exit))) r ⌝ }
 {
     let op = operation_at(sheet, i);
     match op {
@@ -102,14 +95,9 @@ pub fn perform_apart(
         (modelOf (now links) (now axis) (now times) (now marks))) ⌝ }
     requires { ⌜ Ready c (modelOf (now links) (now axis) (now times) (now marks)) ⌝ }
     requires { ⌜ apart (recordGot (c .processes) (now sheet) r) ≡ true ⌝ }
-    ensures { λ v. ⌜ ((w : List ℤ) → record {
-      tables = modelOf (now (links .exit)) (now (axis .exit)) (now (times .exit))
-          (now (marks .exit));
-      words = w;
-      effect = v;
-    }
-        ≡ performed c (recordGot (c .processes) (now (sheet .entry)) r) f
-        (modelOf (now (links .entry)) (now (axis .entry)) (now (times .entry)) (now (marks .entry))) w) ⌝ }
+    ensures { λ v. ⌜ Leaves (performed c (recordGot (c .processes) (now (sheet .entry)) r) f
+        (modelOf (now (links .entry)) (now (axis .entry)) (now (times .entry)) (now (marks .entry))))
+        (modelOf (now (links .exit)) (now (axis .exit)) (now (times .exit)) (now (marks .exit))) v ⌝ }
 {
     if r == 0 {
         return unless_refused(finish(c, axis, times, marks), Effect::Moves);

@@ -9,13 +9,12 @@ use simulation::soon::activate_after;
 use simulation::soon::activate_now;
 use simulation::steps::process_or_none;
 ghost use mathlib.Core.Path.{_≡_};
-ghost use mathlib.Core.List.{List};
-ghost use lib.IntN.{ℤ};
 ghost use Rattle.model_laws.specs.Now.{half};
 ghost use Rattle.model_laws.specs.Tables.{modelOf};
 ghost use Rattle.simulation_laws.specs.Promise.{Noticed};
 ghost use Rattle.sheet.specs.Sheet.{recordFrom};
 ghost use Rattle.run_laws.specs.Needs.{Callable};
+ghost use Rattle.run_laws.specs.Performed.{Leaves};
 ghost use Rattle.run_laws.specs.Tried.{tried};
 
 // With no clause.
@@ -33,13 +32,9 @@ pub(crate) fn direct_of(
     requires { ⌜ Callable c (now sheet) i f (modelOf (now links) (now axis) (now times) (now marks)) ⌝ }
     requires { ⌜ Noticed (half c) f time (now axis) (now times) ⌝ }
     requires { ⌜ (recordFrom (now sheet) i .operation ≡ 10) × (recordFrom (now sheet) i .clause ≡ 0) ⌝ }
-    ensures { λ r. ⌜ ((w : List ℤ) → record {
-      tables = modelOf (now (links .exit)) (now (axis .exit)) (now (times .exit)) (now (marks .exit));
-      words = w;
-      effect = r;
-    }
-        ≡ tried c (recordFrom (now (sheet .entry)) i) f (modelOf (now (links .entry)) (now (axis .entry)) (now (times .entry))
-        (now (marks .entry))) w) ⌝ }
+    ensures { λ r. ⌜ Leaves (tried c (recordFrom (now (sheet .entry)) i) f
+        (modelOf (now (links .entry)) (now (axis .entry)) (now (times .entry)) (now (marks .entry))))
+        (modelOf (now (links .exit)) (now (axis .exit)) (now (times .exit)) (now (marks .exit))) r ⌝ }
 {
     let x = x_of(c, sheet, i, links, f, false);
     let ok = process_or_none(c, x);
@@ -67,13 +62,9 @@ pub(crate) fn delayed_of(
     requires { ⌜ Callable c (now sheet) i f (modelOf (now links) (now axis) (now times) (now marks)) ⌝ }
     requires { ⌜ Noticed (half c) f time (now axis) (now times) ⌝ }
     requires { ⌜ (recordFrom (now sheet) i .operation ≡ 10) × (recordFrom (now sheet) i .clause ≡ 2) ⌝ }
-    ensures { λ r. ⌜ ((w : List ℤ) → record {
-      tables = modelOf (now (links .exit)) (now (axis .exit)) (now (times .exit)) (now (marks .exit));
-      words = w;
-      effect = r;
-    }
-        ≡ tried c (recordFrom (now (sheet .entry)) i) f (modelOf (now (links .entry)) (now (axis .entry)) (now (times .entry))
-        (now (marks .entry))) w) ⌝ }
+    ensures { λ r. ⌜ Leaves (tried c (recordFrom (now (sheet .entry)) i) f
+        (modelOf (now (links .entry)) (now (axis .entry)) (now (times .entry)) (now (marks .entry))))
+        (modelOf (now (links .exit)) (now (axis .exit)) (now (times .exit)) (now (marks .exit))) r ⌝ }
 {
     let x = x_of(c, sheet, i, links, f, false);
     let ok = process_or_none(c, x);
