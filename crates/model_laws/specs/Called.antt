@@ -3,7 +3,7 @@ use mathlib.Core.Path.{_≡_, sym, ap, _∙_}
 use Rattle.model.specs.declared.Counts.{Counts}
 use Rattle.model.specs.declared.Refusal.{Refusal}
 use Rattle.model.specs.declared.answer.Answer.{Answer}
-use Rattle.model.specs.declared.answer.Answer.the-variants.{Refused}
+use Rattle.model.specs.declared.answer.Answer.the-variants.{Done, Linkage, Number, Truth, Refused}
 use Rattle.model.specs.declared.verdict.Verdict.{Verdict}
 use Rattle.model.specs.declared.verdict.Verdict.the-variants.{Fine, Refused as Turned}
 use Rattle.model_laws.specs.Tables.{Tables, After}
@@ -25,6 +25,20 @@ telling (Turned r) a = Refused r
 
 unfoldable pub asked : Counts → (Tables → Answer) → Tables → Answer
 asked c f t = telling (judged c t) (f t)
+
+-- ---- a call that has something to tell
+
+-- "A refusal returns its number"; an accepted call tells v
+abbrev pub ifAccepted : Answer → Answer → Answer
+ifAccepted Done v = v
+ifAccepted (Linkage x) v = v
+ifAccepted (Number n) v = v
+ifAccepted (Truth b) v = v
+ifAccepted (Refused r) v = Refused r
+
+-- f on the tables, answered by what was told of them before it
+abbrev pub answering : (Tables → Answer) → (Tables → After Answer) → Tables → After Answer
+answering told f t = record { tables = f t .tables; answer = ifAccepted (f t .answer) (told t) }
 
 -- ---- the two ways of a public call
 

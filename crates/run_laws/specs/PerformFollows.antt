@@ -12,9 +12,7 @@ use Rattle.model_laws.specs.Tables.{Tables, Lists, After, Sized, Spells}
 use Rattle.model_laws.specs.Called.{called}
 use Rattle.model_laws.specs.Result.{Follows, done, refused, Result}
 use Rattle.model_laws.specs.Now.{time}
-use Rattle.simset_laws.specs.Calls.{onLinks}
-use Rattle.simset_laws.specs.Meaning.{called-is, set-means}
-use Rattle.simset_laws.specs.Plain.{setCall, linksAfter}
+use Rattle.simset_laws.specs.Meaning.{called-is, set-follows}
 use Rattle.simulation_laws.specs.Plain as plain
 use Rattle.simulation_laws.specs.Calls.{holdStep, passivateStep, cancelStep, timedStep, finishStep, waitStep, onSqs, onMarks, onSets}
 use Rattle.simulation_laws.specs.Meaning.{hold-means, passivate-means, wait-means, cancel-means, timed-means, finish-means}
@@ -38,7 +36,7 @@ module _ (c : Counts) (l : Lists) (t : Tables) (w : Sized c t) (s : Spells c l t
 
   pub lists-follow : (k : ListCall) → Follows c t (listsAfter c k l) (tablesAfter c k t)
   unfolding listsAfter tablesAfter
-  lists-follow (onSet k) = by-call (setCall c k l) (onLinks (linksAfter c k)) (set-means c l t w s k)
+  lists-follow (onSet k) = set-follows c l t w s k
   lists-follow (hold z) = by-call (plain.hold z l) (onSqs (λ m a. holdStep c z a)) (hold-means c l t w s z)
   lists-follow passivate = by-call (plain.passivate l) (onSqs (λ m a. passivateStep c a)) (passivate-means c l t w s)
   lists-follow (wait y) = by-call (plain.wait c y l) (onSets (λ k a. waitStep c y k a)) (wait-means c l t w s y)

@@ -3,11 +3,14 @@ pub mod Sets
 pub mod Procedures
 pub mod Calls
 pub mod Plain
+pub mod Told
 pub mod Moves
 pub mod Promise
 pub mod EachSet
 pub mod Laws
 pub mod ClearLaw
 pub mod QueryLaws
+pub mod HeadLaws
+pub mod ToldWorked
 pub mod Meaning
 pub mod Kept

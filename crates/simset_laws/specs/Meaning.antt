@@ -1,5 +1,6 @@
 -- Demand 2 for the class SIMSET: for every well-formed model each set call does what the plain call does to the lists, refused by 3 on its
--- condition alone and then with every word as it was; and a query answers what the lists say, or 3 on its condition.
+-- condition alone and then with every word as it was, and tells what request 2.1 asks for; a query answers what the lists say, or 3 on its
+-- condition.
 use Prim.Native.Nat.{ℕ, _+_, _<_}
 use mathlib.Core.Path.{_≡_, refl, ap, _∙_}
 use mathlib.Core.Bool.{Bool, true, _&&_}
@@ -22,16 +23,18 @@ use Rattle.model_laws.specs.Tables.{Tables, Lists, After, Sized, setHead, membe
 use Rattle.model_laws.specs.Judge.{judged}
 use Rattle.model_laws.specs.Verdict.{judged-says}
 use Rattle.model_laws.specs.Called.{called, asked, turning, telling}
-use Rattle.model_laws.specs.Result.{done, need, Follows}
+use Rattle.model_laws.specs.Result.{done, need, Tells, Follows, need-done, answering-follows}
 use Rattle.simset_laws.specs.Sets.{sucSets, predSets, noLinks}
 use Rattle.simset_laws.specs.Calls.{linkedIf, toldIf, orNone, outStep, followStep, precedeStep, intoStep, clearStep, firstTold}
 use Rattle.simset_laws.specs.Calls.{lastTold, sucTold, predTold, emptyTold, cardinalTold, onLinks, ofLinks}
 use Rattle.simset_laws.specs.Procedures.{sucOf, predOf}
-use Rattle.simset_laws.specs.Plain.{withSets, setCall, linksAfter}
+use Rattle.simset_laws.specs.Plain.{kindsFine, setsAfter, withSets, setCall, linksAfter}
+use Rattle.simset_laws.specs.Told.{headOf, setTells, headTold, setTold, setAnswered}
 use Rattle.simset_laws.specs.Promise.{link-in, linkage-in, head-in, none-or}
 use Rattle.simset_laws.specs.Laws.{sets-out, sets-followed, sets-preceded}
 use Rattle.simset_laws.specs.ClearLaw.{sets-cleared}
 use Rattle.simset_laws.specs.QueryLaws.{suc-says, pred-says, empty-says, cardinal-says}
+use Rattle.simset_laws.specs.HeadLaws.{head-says}
 
 -- ---- operands as places of the table
 
@@ -91,7 +94,8 @@ module _ (c : Counts) (l : Lists) (t : Tables) (z : Sized c t) (s : Spells c l t
   party-in : (y : ℕ) → orNone (isLinkage c y) y ≡ true → y < total c + 1
   party-in y e = none-or (isLinkage c y) y (total c) (linkage-in c y) e
 
-  set-follows : (k : SetCall) → Follows c t (setCall c k l) (onLinks (linksAfter c k) t)
+  -- the steps, which runs make
+  pub set-follows : (k : SetCall) → Follows c t (setCall c k l) (onLinks (linksAfter c k) t)
   unfolding outStep followStep precedeStep intoStep clearStep
   set-follows (Out x) = by-kinds (isLink c x) _ _ (λ e. sets-out m (c .heads) (l .sets) (t .links) (s .links) x (link-of c x e))
   set-follows (Follow x y) =
@@ -110,9 +114,26 @@ module _ (c : Counts) (l : Lists) (t : Tables) (z : Sized c t) (s : Spells c l t
   set-follows (Clear x) = by-kinds (isHead c x) _ _ (λ e. sets-cleared m (c .heads) (l .sets) (t .links) (s .links) heads-in x
       (head-of c x e))
 
-  -- the public calls are the steps on judged tables
-  pub set-means : (k : SetCall) → Follows c t (setCall c k l) (called c (onLinks (linksAfter c k)) t)
-  set-means k = rw (called-is (onLinks (linksAfter c k))) (set-follows k)
+  -- what is told before a call that is done: the head in whose list x stands, and of a head how many its list has
+  head-told : (x : ℕ) → isLink c x ≡ true → headTold c x (t .links) ≡ Linkage (headOf x (l .sets))
+  unfolding headTold
+  head-told x e = rw e (ap Linkage (head-says m (c .heads) (l .sets) (t .links) (s .links) heads-in x (link-of c x e)))
+
+  set-told : (k : SetCall) → kindsFine c k ≡ true → setTold c k (t .links) ≡ setTells k (l .sets)
+  unfolding cardinalTold
+  set-told (Out x) e = head-told x e
+  set-told (Follow x y) e = head-told x (both (isLink c x) (orNone (isLinkage c y) y) e .0)
+  set-told (Precede x y) e = head-told x (both (isLink c x) (orNone (isLinkage c y) y) e .0)
+  set-told (Into x y) e = head-told x (both (isLink c x) (orNone (isHead c y) y) e .0)
+  set-told (Clear x) e = rw e (ap Number (cardinal-says m (c .heads) (l .sets) (t .links) (s .links) heads-in x (head-of c x e)))
+
+  -- the public calls are the steps on judged tables, and tell what the lists before them say
+  pub set-means : (k : SetCall) → Tells c t (setTells k (l .sets)) (setCall c k l) (called c (setAnswered c k) t)
+  set-means k =
+      rw (called-is (setAnswered c k))
+      (answering-follows c t (setTells k (l .sets)) (ofLinks (setTold c k)) (onLinks (linksAfter c k)) (setCall c k l)
+      (λ r e. set-told k (need-done (kindsFine c k) (withSets l (setsAfter k (l .sets))) r e))
+      (set-follows k))
 
   -- ---- the queries
 

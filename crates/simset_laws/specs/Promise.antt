@@ -15,8 +15,10 @@ use Rattle.model.specs.declared.answer.Answer.{Answer}
 use Rattle.model.specs.declared.answer.Answer.the-variants.{Done, Refused}
 use Rattle.model.specs.declared.call.SetCall.{SetCall}
 use Rattle.model_laws.specs.Tables.{modelOf}
+use Rattle.model_laws.specs.Called.{ifAccepted}
 use Rattle.simset_laws.specs.Calls.{Linked, linkedIf, toldIf, orNone, onLinks}
 use Rattle.simset_laws.specs.Plain.{linksAfter}
+use Rattle.simset_laws.specs.Told.{setTold, linksAnswered}
 
 -- the links and the answer are as wanted, and the links are sound
 pub record Moved (m : ℕ) (want got : Linked) : Type 0 where
@@ -82,6 +84,21 @@ told b a r e f = rw e f
 pub moved-as : (m : ℕ) (c : Counts) (k j : SetCall) (t : List ℕ) (got : Linked) → k ≡ j → Moved m (linksAfter c j t) got
     → Moved m (linksAfter c k t) got
 moved-as m c k j t got e w = rw e w
+
+pub told-as : (c : Counts) (k j : SetCall) (t : List ℕ) (a : Answer) → k ≡ j → a ≡ setTold c j t → a ≡ setTold c k t
+told-as c k j t a e w = rw e w
+
+-- a call that was made on the links, answered by what was told before it
+pub moved-telling : (m : ℕ) (c : Counts) (k : SetCall) (t l : List ℕ) (a v r : Answer) → v ≡ setTold c k t
+    → Moved m (linksAfter c k t) (record { links = l; answer = a }) → r ≡ ifAccepted a v
+    → Moved m (linksAnswered c k t) (record { links = l; answer = r })
+moved-telling m c k t l a v r e w q =
+    record {
+      is =
+          ap (λ (b : Answer). record { links = l; answer = b }) (q ∙ ap (ifAccepted a) e)
+          ∙ ap (λ (g : Linked). record { links = g .links; answer = ifAccepted (g .answer) (setTold c k t) }) (w .is);
+      sound = w .sound;
+    }
 
 -- a call that was made on the links, seen on the whole model
 pub on-links : (m : ℕ) (links axis times marks l : List ℕ) (a : Answer) (f : List ℕ → Linked)

@@ -92,7 +92,7 @@ module _ (m H : ℕ) (sets : List (List ℕ)) (t : List ℕ) (s : SpellsSets m H
   above h y a i = leb-false y H (r .only h y a i .isn't)
 
   -- x is on the ring of h alone, so the search by lists finds that list
-  found : (f : ℕ → List ℕ → ℕ) (x h : ℕ) → Head m (setHead H) h → In x (h ∷ membersOf sets h) → whereIn f x 1 sets ≡ f h (membersOf sets h)
+  pub found : (f : ℕ → List ℕ → ℕ) (x h : ℕ) → Head m (setHead H) h → In x (h ∷ membersOf sets h) → whereIn f x 1 sets ≡ f h (membersOf sets h)
   found f x h a on =
       let e : 1 + (h - 1) ≡ h = omega (arith, a .some) in
       let hl : h ≤ H = leb-true h H (a .is) in
@@ -109,7 +109,7 @@ module _ (m H : ℕ) (sets : List (List ℕ)) (t : List ℕ) (s : SpellsSets m H
       one g k p q (inr i) (inl f) n = apart m (setHead H) k x q (r .only g x p i) (sym f)
       one g k p q (inr i) (inr j) n = n (rings-apart m (setHead H) (membersOf sets) S P r g k x p q i j)
 
-  lost : (f : ℕ → List ℕ → ℕ) (x : ℕ) → S x ≡ 0 → whereIn f x 1 sets ≡ 0
+  pub lost : (f : ℕ → List ℕ → ℕ) (x : ℕ) → S x ≡ 0 → whereIn f x 1 sets ≡ 0
   lost f x z =
       where-none f x 1 sets
       (λ j l i.

@@ -15,6 +15,7 @@ use Rattle.model_laws.specs.Tables.{Tables, After, modelOf}
 use Rattle.model_laws.specs.Now.{half, timeOf, firstOf}
 use Rattle.simset_laws.specs.Calls.{orNone, toldIf}
 use Rattle.simset_laws.specs.Procedures.{preceded}
+use Rattle.simset_laws.specs.Told.{headAt}
 use Rattle.simulation_laws.specs.Plain.{above, timedNeed}
 use Rattle.simulation_laws.specs.Procedures.{Sqs, Outcome, made, turnedDown, nextOn, idleAt, lone, dropOn, held, passivated}
 use Rattle.simulation_laws.specs.Procedures.{cancelled, finishedMarks, activated}
@@ -64,6 +65,10 @@ waitStep c y links a =
       outcome = made (dropOn (half c) (firstOf (half c) (a .axis)) a);
     })
     else record { links = links; outcome = turnedDown Operand a }
+
+-- before it: the head of the ring on which current lies, or none
+unfoldable pub waitTold : Counts → List ℕ → List ℕ → Answer
+waitTold c links axis = Linkage (headAt (total c + 1) (c .heads) (linkageAt c (firstOf (half c) axis)) links)
 
 -- ---- queries: a process is read, so none is refused
 

@@ -13,7 +13,7 @@ use Rattle.ring_laws.specs.Lists.{decide, test, clash}
 use Rattle.model.specs.declared.Counts.{Counts}
 use Rattle.model.specs.declared.Refusal.the-variants.{Operand, NoNotice}
 use Rattle.model.specs.Counts.{total, main, isHead, isProcess, isLink}
-use Rattle.model.specs.declared.answer.Answer.the-variants.{Done, Refused}
+use Rattle.model.specs.declared.answer.Answer.the-variants.{Done, Linkage, Refused}
 use Rattle.model_laws.specs.Notices.{Notice}
 use Rattle.model_laws.specs.Tables.{Tables, Lists, Sized, Spells, modelOf}
 use Rattle.model_laws.specs.Formed.{notice-process}
@@ -28,10 +28,12 @@ use Rattle.simset_laws.specs.Promise.{none-or, head-in}
 use Rattle.simset_laws.specs.Laws.{sets-preceded}
 use Rattle.simset_laws.specs.Meaning.{called-is, link-of}
 use Rattle.simset_laws.specs.Plain.{withSets}
+use Rattle.simset_laws.specs.Told.{headOf}
+use Rattle.simset_laws.specs.HeadLaws.{head-says}
 use Rattle.simulation_laws.specs.Plain.{above, hold, passivate, wait, cancel, finish, timedNeed, timed}
 use Rattle.simulation_laws.specs.Procedures.{Sqs, made, turnedDown, lone, dropOn, passivated, activated}
 use Rattle.simulation_laws.specs.Calls.{sqsOf, Marked, holdStep, passivateStep, cancelStep, timedStep, finishStep, waitStep, onSqs}
-use Rattle.simulation_laws.specs.Calls.{onMarks, onSets}
+use Rattle.simulation_laws.specs.Calls.{onMarks, onSets, waitTold}
 use Rattle.simulation_laws.specs.Places.{Process}
 use Rattle.simulation_laws.specs.Agree.{withSqs, Agrees, st, first-is, process-first, hold-agrees}
 use Rattle.simulation_laws.specs.Agree.{follows-sqs, follows-marks}
@@ -143,14 +145,21 @@ module _ (c : Counts) (l : Lists) (t : Tables) (w : Sized c t) (s : Spells c l t
       (subst (λ (r : Result Lists). Follows c t r (record { tables = t; answer = Refused NoNotice }))
       (sym (lone-leaves c l t s (sp .head) (sp .rest) (sp .is) (withSets l (precedeSets (current l) y (l .sets))) q)) (refl, refl))
 
+  current-link : isLink c (current l) ≡ true
+  current-link =
+      rw (current-is, lt-ltb (c .heads) (sp .head .who) (first-process .over))
+      (le-leb (sp .head .who) (total c) (omega (arith, first-process .upto)))
+
+  here : c .heads + firstOf (half c) (t .axis) ≡ current l
+  here = omega (arith, place-first, current-is, first-process)
+
   -- current is a link, and goes into the set of y
   entered : (y : ℕ) → orNone (isHead c y) y ≡ true
       → Spells c (withSets l (precedeSets (current l) y (l .sets)))
       (modelOf (preceded (total c + 1) (current l) y (t .links)) (t .axis) (t .times) (t .marks))
   entered y g =
-      let p : isLink c (current l) ≡ true = current-link in
       record {
-        links = sets-preceded (total c + 1) (c .heads) (l .sets) (t .links) (s .links) (omega arith) (current l) (link-of c (current l) p) y
+        links = sets-preceded (total c + 1) (c .heads) (l .sets) (t .links) (s .links) (omega arith) (current l) (link-of c (current l) current-link) y
             (none-or (isHead c y) y (total c) (head-in c y) g);
         axis = s .axis;
         times = s .times;
@@ -160,17 +169,11 @@ module _ (c : Counts) (l : Lists) (t : Tables) (w : Sized c t) (s : Spells c l t
         within = s .within;
         ended = s .ended;
       }
-    where
-      current-link : isLink c (current l) ≡ true
-      current-link =
-          rw (current-is, lt-ltb (c .heads) (sp .head .who) (first-process .over))
-          (le-leb (sp .head .who) (total c) (omega (arith, first-process .upto)))
 
   wait-on : (y : ℕ) → orNone (isHead c y) y ≡ true → lone (half c) (sqsOf t) ≡ false
       → Follows c t (wait c y l) (onSets (λ k a. waitStep c y k a) t)
   unfolding waitStep passivated
   wait-on y g q =
-      let here : c .heads + firstOf (half c) (t .axis) ≡ current l = omega (arith, place-first, current-is, first-process) in
       let u : Tables = modelOf (preceded (total c + 1) (current l) y (t .links)) (t .axis) (t .times) (t .marks) in
       let a = wait-agrees c (withSets l (precedeSets (current l) y (l .sets))) u (entered y g) (sp .head) (sp .rest) (sp .is) y l g refl in
       rw (g, q, here) (waited (wait c y l) (rw q at a))
@@ -189,6 +192,14 @@ module _ (c : Counts) (l : Lists) (t : Tables) (w : Sized c t) (s : Spells c l t
           })
       waited (refused r) k = let z : false ≡ true = cc in clash z
       waited (done m) k = k
+
+  -- what is told before it: the head in whose list current stands
+  pub wait-says : waitTold c (t .links) (t .axis) ≡ Linkage (headOf (current l) (l .sets))
+  unfolding waitTold
+  wait-says =
+      rw here
+      (ap Linkage (head-says (total c + 1) (c .heads) (l .sets) (t .links) (s .links) (omega arith) (current l)
+      (link-of c (current l) current-link)))
 
   pub cancel-means : (x : ℕ) → Follows c t (cancel c x l) (called c (onSqs (λ k a. cancelStep c x a)) t)
   cancel-means x =

@@ -1,34 +1,38 @@
 -- The public sequencing calls and queries as values: what each case does to the tables, what it is on lists, and as published.
+use Prim.Native.Nat.{ℕ}
 use mathlib.Core.Bool.{true, false, not}
+use mathlib.Core.List.{List}
 use lib.Dec.{eqb}
 use lib.ListN.{length}
 use Rattle.ring_laws.specs.Tabulate.{has}
 use Rattle.model.specs.declared.Counts.{Counts}
 use Rattle.model.specs.Counts.{main, isHead, isProcess, isLinkage}
 use Rattle.model.specs.declared.answer.Answer.{Answer}
-use Rattle.model.specs.declared.answer.Answer.the-variants.{Linkage, Number, Truth}
+use Rattle.model.specs.declared.answer.Answer.the-variants.{Done, Linkage, Number, Truth}
 use Rattle.model.specs.declared.call.SequencingCall.{SequencingCall}
 use Rattle.model.specs.declared.call.SequencingCall.the-variants.{Hold, Passivate, Wait, Cancel, Activate, Reactivate, Finish}
 use Rattle.model.specs.declared.call.Query.{Query}
 use Rattle.model.specs.declared.call.Query.the-variants.{First, Last, Suc, Pred, Empty, Cardinal, Current, Time, Idle, Terminated, Evtime}
 use Rattle.model.specs.declared.call.Query.the-variants.{Nextev}
 use Rattle.model_laws.specs.Tables.{Tables, Lists, After, membersOf}
+use Rattle.model_laws.specs.Called.{answering}
 use Rattle.model_laws.specs.Result.{Result, need}
 use Rattle.model_laws.specs.Now.{current, time}
 use Rattle.simset_laws.specs.Sets.{sucSets, predSets, noLinks}
 use Rattle.simset_laws.specs.Calls.{orNone, toldIf, firstTold, lastTold, sucTold, predTold, emptyTold, cardinalTold}
+use Rattle.simset_laws.specs.Told.{headOf}
 use Rattle.simulation_laws.specs.NoticeOps.{hasNotice}
 use Rattle.simulation_laws.specs.Plain.{timedNeed}
 use Rattle.simulation_laws.specs.Plain as plain
 use Rattle.simulation_laws.specs.Published.{clauseCode, clausePrior, ACTIVATE}
 use Rattle.simulation_laws.specs.Published as published
 use Rattle.simulation_laws.specs.Calls.{sqsOf, holdStep, passivateStep, cancelStep, timedStep, finishStep, waitStep, onSqs, onMarks}
-use Rattle.simulation_laws.specs.Calls.{onSets, currentTold, timeTold, idleTold, terminatedTold, evtimeTold, nextevTold}
+use Rattle.simulation_laws.specs.Calls.{onSets, waitTold, currentTold, timeTold, idleTold, terminatedTold, evtimeTold, nextevTold}
 use Rattle.simulation_laws.specs.QueryMeaning.{evtimeOf, nextevOf}
 
 -- ---- the sequencing calls
 
--- on the tables of a judged model
+-- on the tables of a judged model, by the step that runs make too
 abbrev pub sequencingAfter : Counts → SequencingCall → Tables → After Answer
 sequencingAfter c (Hold z) t = onSqs (λ k a. holdStep c z a) t
 sequencingAfter c Passivate t = onSqs (λ k a. passivateStep c a) t
@@ -37,6 +41,29 @@ sequencingAfter c (Cancel x) t = onSqs (λ k a. cancelStep c x a) t
 sequencingAfter c (Activate k x y z) t = onSqs (λ m a. timedStep c false k x y z m a) t
 sequencingAfter c (Reactivate k x y z) t = onSqs (λ m a. timedStep c true k x y z m a) t
 sequencingAfter c Finish t = onMarks (λ k a. finishStep c k a) t
+
+-- "Follow, precede, into and wait pass that head on": wait tells the head of the set that current left, the others have nothing to tell
+abbrev pub sequencingTold : Counts → SequencingCall → List ℕ → List ℕ → Answer
+sequencingTold c (Hold z) links axis = Done
+sequencingTold c Passivate links axis = Done
+sequencingTold c (Wait y) links axis = waitTold c links axis
+sequencingTold c (Cancel x) links axis = Done
+sequencingTold c (Activate k x y z) links axis = Done
+sequencingTold c (Reactivate k x y z) links axis = Done
+sequencingTold c Finish links axis = Done
+
+abbrev pub sequencingAnswered : Counts → SequencingCall → Tables → After Answer
+sequencingAnswered c k t = answering (λ u. sequencingTold c k (u .links) (u .axis)) (sequencingAfter c k) t
+
+-- the same of the lists before the call
+abbrev pub sequencingTells : SequencingCall → Lists → Answer
+sequencingTells (Hold z) l = Done
+sequencingTells Passivate l = Done
+sequencingTells (Wait y) l = Linkage (headOf (current l) (l .sets))
+sequencingTells (Cancel x) l = Done
+sequencingTells (Activate k x y z) l = Done
+sequencingTells (Reactivate k x y z) l = Done
+sequencingTells Finish l = Done
 
 -- on the plain machine's lists
 unfoldable pub sequencingCall : Counts → SequencingCall → Lists → Result Lists

@@ -1,6 +1,6 @@
 -- What the queries' code answers, and calls seen on the whole model.
 use Prim.Native.Nat.{ℕ, _+_, _-_, _<_}
-use mathlib.Core.Path.{_≡_, refl, sym, ap, _∙_, subst}
+use mathlib.Core.Path.{_≡_, refl, sym, ap, ap₂, _∙_, subst}
 use mathlib.Core.Logic.{_≢_}
 use mathlib.Core.Bool.{Bool, true, false, _||_}
 use mathlib.Core.List.{List}
@@ -14,14 +14,15 @@ use mir.Val.{SFits, toZ, ofZ}
 use mir.ValLaws.{toZ-ofZ}
 use Rattle.model.specs.declared.Counts.{Counts}
 use Rattle.model.specs.declared.Refusal.the-variants.{Idle}
-use Rattle.model.specs.Counts.{isProcess, placeOf, linkageAt}
+use Rattle.model.specs.Counts.{total, isProcess, placeOf, linkageAt}
 use Rattle.model.specs.declared.answer.Answer.{Answer}
 use Rattle.model.specs.declared.answer.Answer.the-variants.{Linkage, Number, Truth, Refused}
 use Rattle.model_laws.specs.Now.{half, firstOf, nextPlace, idleOn}
 use Rattle.model_laws.specs.Tables.{modelOf}
+use Rattle.simset_laws.specs.Told.{headAt}
 use Rattle.simulation_laws.specs.Procedures.{Sqs, Outcome}
 use Rattle.simulation_laws.specs.Calls.{Marked, Waited, onSqs, onMarks, onSets, currentTold, timeTold, idleTold, evtimeTold}
-use Rattle.simulation_laws.specs.Calls.{nextevTold}
+use Rattle.simulation_laws.specs.Calls.{nextevTold, waitTold}
 use Rattle.simulation_laws.specs.Promise.{sqs, Answers, Place, Read}
 use Rattle.simulation_laws.specs.StepPromise.{FinishMade, WaitMade, process-in}
 
@@ -32,6 +33,13 @@ is-in c x e = process-in c x (rw e (or-true (eqb x 0)))
     or-true : (b : Bool) → _≡_ {A = Bool} (b || true) true
     or-true true = refl
     or-true false = refl
+
+-- wait: f is current's place, x its number, h the head that the walk from x found
+pub wait-told : (c : Counts) (links axis : List ℕ) (f x n h : ℕ) → Place (half c) (firstOf (half c) axis) f → x ≡ c .heads + f
+    → n ≡ total c → h ≡ headAt (n + 1) (c .heads) x links → Linkage h ≡ waitTold c links axis
+unfolding waitTold
+wait-told c links axis f x n h p e q is =
+    ap Linkage (is ∙ ap₂ (λ (m y : ℕ). headAt (m + 1) (c .heads) y links) q (e ∙ ap (linkageAt c) (p .is)))
 
 module _ (c : Counts) (axis times : List ℕ) where
   pub current-told : (f x : ℕ) → Place (half c) (firstOf (half c) axis) f → x ≡ c .heads + f → Linkage x ≡ currentTold c (sqs axis times)
