@@ -1,10 +1,11 @@
 // The public calls and queries of SIMSET and SIMULATION: each is lent the whole model and a call as a value, judges the model, and makes
 // the call or tells the answer. Refusals come in the order 1, 2, 3, then the rest; a refused call changes no word.
 mod by_case;
+mod told;
 
-use crate::by_case::sequencing_step;
-use crate::by_case::set_step;
 use crate::by_case::tell;
+use crate::told::sequencing_answer;
+use crate::told::set_answer;
 use model::Counts;
 use model::answer::Answer;
 use model::call::Query;
@@ -15,11 +16,10 @@ use model_judge::judge_tables;
 ghost use mathlib.Core.Path.{_≡_};
 ghost use Rattle.model_laws.specs.Called.{called, asked};
 ghost use Rattle.model_laws.specs.Tables.{modelOf};
-ghost use Rattle.simset_laws.specs.Calls.{onLinks};
-ghost use Rattle.simset_laws.specs.Plain.{linksAfter};
-ghost use Rattle.simulation_laws.specs.PublicCalls.{sequencingAfter, queryTold};
+ghost use Rattle.simset_laws.specs.Told.{setAnswered};
+ghost use Rattle.simulation_laws.specs.PublicCalls.{sequencingAnswered, queryTold};
 
-// Out, follow, precede, into and clear.
+// Out, follow, precede and into answer the head of the set that x left, or none; clear answers how many it removed.
 pub fn set_call(
     c: Counts,
     links: &mut [u32],
@@ -32,17 +32,17 @@ pub fn set_call(
       tables = modelOf (now (links .exit)) (now (axis .entry)) (now (times .entry)) (now (marks .entry));
       answer = r;
     }
-        ≡ called c (onLinks (linksAfter c call)) (modelOf (now (links .entry)) (now (axis .entry)) (now (times .entry))
+        ≡ called c (setAnswered c call) (modelOf (now (links .entry)) (now (axis .entry)) (now (times .entry))
         (now (marks .entry))) ⌝ }
 {
     let v = judge_tables(c, links, axis, times, marks);
     match v {
         Verdict::Refused(r) => Answer::Refused(r),
-        Verdict::Fine => set_step(c, links, call),
+        Verdict::Fine => set_answer(c, links, call),
     }
 }
 
-// Hold, passivate, wait, cancel, activate, reactivate and finish.
+// Hold, passivate, wait, cancel, activate, reactivate and finish. Wait answers the head of the set that current left, or none.
 pub fn sequencing_call(
     c: Counts,
     links: &mut [u32],
@@ -52,12 +52,12 @@ pub fn sequencing_call(
     call: SequencingCall,
 ) -> Answer
     ensures { λ r. ⌜ record { tables = modelOf (now (links .exit)) (now (axis .exit)) (now (times .exit)) (now (marks .exit)); answer = r }
-        ≡ called c (sequencingAfter c call) (modelOf (now (links .entry)) (now (axis .entry)) (now (times .entry)) (now (marks .entry))) ⌝ }
+        ≡ called c (sequencingAnswered c call) (modelOf (now (links .entry)) (now (axis .entry)) (now (times .entry)) (now (marks .entry))) ⌝ }
 {
     let v = judge_tables(c, links, axis, times, marks);
     match v {
         Verdict::Refused(r) => Answer::Refused(r),
-        Verdict::Fine => sequencing_step(c, links, axis, times, marks, call),
+        Verdict::Fine => sequencing_answer(c, links, axis, times, marks, call),
     }
 }
 

@@ -16,8 +16,8 @@ enum-known-v c = search needs
 enum-told : tie.Need-enum-told
 enum-told c = search needs
 
-sequencing-step-requires : tie.Need-sequencing-step-requires
-sequencing-step-requires c κs = (ready-takeable _ _ (judged-ready _ _ (sym (c .before .before .before .before .before .before .judge-tables .ensures) ∙ c .before .before .before .before .enum-told .given .1)), judged-ready _ _ (sym (c .before .before .before .before .before .before .judge-tables .ensures) ∙ c .before .before .before .before .enum-told .given .1) .links-sound)
+sequencing-answer-requires : tie.Need-sequencing-answer-requires
+sequencing-answer-requires c κs = (ready-takeable _ _ (judged-ready _ _ (sym (c .before .before .before .before .before .before .judge-tables .ensures) ∙ c .before .before .before .before .enum-told .given .1)), judged-ready _ _ (sym (c .before .before .before .before .before .before .judge-tables .ensures) ∙ c .before .before .before .before .enum-told .given .1) .links-sound)
 
 same-length : tie.Need-same-length
 same-length c = search needs
@@ -47,7 +47,7 @@ same-length-8 : tie.Need-same-length-8
 same-length-8 c = search needs
 
 returns-2 : tie.Need-returns-2
-returns-2 c = called-fine _ _ _ (c .before .before .before .before .before .before .before .before .before .before .before .before .before .before .before .judge-tables .ensures) _ _ (c .before .before .before .before .before .before .before .before .before .before .before .before .before .enum-told .given .1) (c .before .before .before .before .before .before .before .before .sequencing-step .ensures)
+returns-2 c = called-fine _ _ _ (c .before .before .before .before .before .before .before .before .before .before .before .before .before .before .before .judge-tables .ensures) _ _ (c .before .before .before .before .before .before .before .before .before .before .before .before .before .enum-told .given .1) (c .before .before .before .before .before .before .before .before .sequencing-answer .ensures)
 
 pub sequencing-call-spec : {M : Type 1} → statement M
 sequencing-call-spec =
@@ -56,7 +56,7 @@ sequencing-call-spec =
     judge-tables-requires
     enum-known-v
     enum-told
-    sequencing-step-requires
+    sequencing-answer-requires
     same-length
     same-length-2
     same-length-3

@@ -1,7 +1,7 @@
 use mathlib.Core.Path.{sym, _∙_}
 use Rattle.model_laws.specs.Ready.{judged-ready}
 use Rattle.model_laws.specs.Called.{called-turned, called-fine}
-use Rattle.simset_laws.specs.Plain.{linksAfter}
+use Rattle.simset_laws.specs.Told.{linksAnswered}
 use Rattle.simset_laws.specs.Promise.{on-links}
 use borrow.Author.Needs.{needs}
 use native.Mathlib.Omega.{arith}
@@ -17,8 +17,8 @@ enum-known-v c = search needs
 enum-told : tie.Need-enum-told
 enum-told c = search needs
 
-set-step-requires : tie.Need-set-step-requires
-set-step-requires c κs = judged-ready _ _ (sym (c .before .before .before .judge-tables .ensures) ∙ c .before .enum-told .given .1) .links-sound
+set-answer-requires : tie.Need-set-answer-requires
+set-answer-requires c κs = judged-ready _ _ (sym (c .before .before .before .judge-tables .ensures) ∙ c .before .enum-told .given .1) .links-sound
 
 same-length : tie.Need-same-length
 same-length c = search needs
@@ -30,7 +30,7 @@ same-length-2 : tie.Need-same-length-2
 same-length-2 c = search needs
 
 returns-2 : tie.Need-returns-2
-returns-2 c = called-fine _ _ _ (c .before .before .before .before .before .before .judge-tables .ensures) _ _ (c .before .before .before .before .enum-told .given .1) (on-links _ _ _ _ _ _ _ (linksAfter (c .before .before .before .before .before .before .before .before .before .before .before .before .args .c) (c .before .before .before .before .before .before .before .before .before .before .before .before .args .call)) (c .before .before .set-step .ensures))
+returns-2 c = called-fine _ _ _ (c .before .before .before .before .before .before .judge-tables .ensures) _ _ (c .before .before .before .before .enum-told .given .1) (on-links _ _ _ _ _ _ _ (linksAnswered (c .before .before .before .before .before .before .before .before .before .before .before .before .args .c) (c .before .before .before .before .before .before .before .before .before .before .before .before .args .call)) (c .before .before .set-answer .ensures))
 
 pub set-call-spec : {M : Type 1} → statement M
 set-call-spec =
@@ -39,7 +39,7 @@ set-call-spec =
     judge-tables-requires
     enum-known-v
     enum-told
-    set-step-requires
+    set-answer-requires
     same-length
     returns
     same-length-2
