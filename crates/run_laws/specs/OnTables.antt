@@ -1,8 +1,8 @@
 -- The calls of a step on a run's tables: the published procedures on the model's, accum on the flat list of words.
-use Prim.Native.Nat.{ℕ, zero, suc, _+_, _-_}
+use Prim.Native.Nat.{ℕ, _+_, _-_}
 use mathlib.Core.Bool.{Bool}
 use mathlib.Core.List.{List}
-use lib.Dec.{ltb, leb, eqb}
+use lib.Dec.{ltb, eqb}
 use lib.IntN.{ℤ}
 use lib.ListN.{getD}
 use Rattle.ring_laws.specs.Lists.{if_then_else_}
@@ -15,6 +15,7 @@ use Rattle.model_laws.specs.Now.{timeOf, firstOf, half}
 use Rattle.simset_laws.specs.Procedures as sets
 use Rattle.simset_laws.specs.Calls.{toldIf, onLinks}
 use Rattle.simset_laws.specs.Plain.{linksAfter}
+use Rattle.simset_laws.specs.Walk.{firstFrom}
 use Rattle.simulation_laws.specs.Calls.{holdStep, passivateStep, cancelStep, timedStep, finishStep, waitStep, onSqs, onMarks, onSets}
 use Rattle.accum_laws.specs.Flat.{updatedIn}
 use Rattle.machine.specs.Calls.{ListCall, onSet, hold, passivate, wait, cancel, activate, ifEmpty, finish, Call, onList, accum}
@@ -30,10 +31,8 @@ abbrev pub firstAt : Counts → List ℕ → ℕ → ℕ
 firstAt c links h = sets.sucOf (c .heads) h links
 
 -- along a ring from i on, by at most k places: the first process, none where the head is reached
-unfoldable pub processFrom : Counts → List ℕ → ℕ → ℕ → ℕ
-processFrom c links zero i = 0
-processFrom c links (suc k) i =
-    if isProcess c i then i else if leb i (c .heads) then 0 else processFrom c links k (getD links i 0)
+abbrev pub processFrom : Counts → List ℕ → ℕ → ℕ → ℕ
+processFrom c links k i = firstFrom (isProcess c) (c .heads) links k i
 
 -- "the first member of head h that is a process, or none"
 abbrev pub processAt : Counts → List ℕ → ℕ → ℕ

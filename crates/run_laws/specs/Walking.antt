@@ -1,4 +1,4 @@
--- The walk along a ring to its first process: what the loop keeps, and that it finds what the list says.
+-- The walk along a ring to its first process finds what the list says.
 use Prim.Native.Nat.{ℕ, zero, suc, _+_, _-_, _<_, _≤_}
 use mathlib.Core.Path.{_≡_, refl, sym, ap, _∙_}
 use mathlib.Core.Logic.{inl, inr}
@@ -7,82 +7,30 @@ use mathlib.Core.List.{List, [], _∷_}
 use native.Mathlib.Omega.{arith}
 use lib.Dec.{ltb, eqb}
 use lib.ListN.{length, getD}
-use borrow.Author.Tests.{ne-eqb, le-leb, lt-leb, le-ltb, leb-true, leb-false}
+use borrow.Author.Tests.{ne-eqb, le-ltb, leb-true, leb-false}
 use Rattle.ring_laws.specs.Lists.{In, below, test}
 use Rattle.ring_laws.specs.Chain.{Chain}
 use Rattle.ring_laws.specs.Rings.{Head, on-place}
 use Rattle.ring_laws.specs.Stores.{sucs, pres, suc-at}
 use Rattle.ring_laws.specs.Spell.{spells-few}
-use Rattle.ring_laws.specs.Table.{Sound}
 use Rattle.model.specs.declared.Counts.{Counts}
 use Rattle.model.specs.Counts.{isProcess, total}
 use Rattle.model_laws.specs.Tables.{setHead, membersOf, SpellsSets}
 use Rattle.simset_laws.specs.Procedures.{linkOr}
 use Rattle.simset_laws.specs.Calls.{orNone}
 use Rattle.simset_laws.specs.QueryLaws.{or-link, or-none}
+use Rattle.simset_laws.specs.Walk.{from-found, from-head, from-on}
 use Rattle.sheet.specs.Accepted.{operandBase}
 use Rattle.machine.specs.Operands.{firstProcess}
 use Rattle.run_laws.specs.OnTables.{processFrom, processAt, operandWith}
 
--- ---- the clauses of the walk
-
-module _ (c : Counts) (links : List ℕ) where
-  from-zero : (k i : ℕ) → k ≡ 0 → processFrom c links k i ≡ 0
-  unfolding processFrom
-  from-zero zero i e = refl
-  from-zero (suc k) i e = omega arith
-
-  from-process : (k i : ℕ) → 0 < k → isProcess c i ≡ true → processFrom c links k i ≡ i
-  unfolding processFrom
-  from-process zero i l e = omega arith
-  from-process (suc k) i l e = rw e
-
-  from-head : (k i : ℕ) → i ≤ c .heads → processFrom c links k i ≡ 0
-  unfolding processFrom
-  from-head zero i l = refl
-  from-head (suc k) i l = rw (le-ltb (c .heads) i l, le-leb i (c .heads) l)
-
-  from-on : (k i : ℕ) → isProcess c i ≡ false → c .heads < i → processFrom c links (suc k) i ≡ processFrom c links k (getD links i 0)
-  unfolding processFrom
-  from-on k i e l = rw (e, lt-leb i (c .heads) l)
-
--- ---- the loop, begun at v: it is at i, with k places left
-
-pub record Walking (c : Counts) (links : List ℕ) (v k i : ℕ) : Type 0 where
-  pub at : i < total c + 1
-  pub rest : processFrom c links k i ≡ processFrom c links (total c + 1) v
-
-module _ (c : Counts) (links : List ℕ) (v : ℕ) where
-  pub walk-start : v < total c + 1 → (k : ℕ) → k ≡ total c + 1 → Walking c links v k v
-  walk-start l k e = record { at = l; rest = ap (λ (n : ℕ). processFrom c links n v) e }
-
-  module _ (k i : ℕ) (w : Walking c links v k i) where
-    pub walk-out : k ≤ 0 → 0 ≡ processFrom c links (total c + 1) v
-    walk-out l = sym (from-zero c links k i (omega arith)) ∙ w .rest
-
-    module _ (some : 0 < k) where
-      pub walk-found : isProcess c i ≡ true → i ≡ processFrom c links (total c + 1) v
-      walk-found e = sym (from-process c links k i some e) ∙ w .rest
-
-      pub walk-none : i ≤ c .heads → 0 ≡ processFrom c links (total c + 1) v
-      walk-none l = sym (from-head c links k i l) ∙ w .rest
-
-      pub walk-on : Sound (total c + 1) links → isProcess c i ≡ false → c .heads < i → (j : ℕ) → j ≡ getD links i 0
-          → Walking c links v (k - 1) j
-      walk-on s e l j is =
-          record {
-            at = omega (arith, s .inside i);
-            rest = ap (processFrom c links (k - 1)) is ∙ sym (from-on c links (k - 1) i e l)
-                ∙ ap (λ (n : ℕ). processFrom c links n i) one-more
-                ∙ w .rest;
-          }
-        where
-          one-more : suc (k - 1) ≡ k
-          one-more = omega arith
+-- a head is no process: the walk ends there with none
+at-head : (c : Counts) (links : List ℕ) (k i : ℕ) → i ≤ c .heads → processFrom c links k i ≡ 0
+at-head c links k i l = from-head (isProcess c) (c .heads) links k i (rw (le-ltb (c .heads) i l)) l
 
 -- where the first place is a process there is no walk
 pub no-walk : (c : Counts) (links : List ℕ) (v : ℕ) → isProcess c v ≡ true → v ≡ processFrom c links (total c + 1) v
-no-walk c links v e = sym (from-process c links (total c + 1) v (omega arith) e)
+no-walk c links v e = sym (from-found (isProcess c) (c .heads) links (total c + 1) v (omega arith) e)
 
 -- a first member that is a process or none is what the walk finds
 at-first : (c : Counts) (links : List ℕ) (v : ℕ) → orNone (isProcess c (linkOr (c .heads) v)) (linkOr (c .heads) v) ≡ true
@@ -92,7 +40,7 @@ at-first c links v h =
     (λ l. let e : linkOr (c .heads) v ≡ v = or-link (c .heads) v l in
     let p : isProcess c v ≡ true = rw (e, ne-eqb v 0 (λ z. omega arith)) at h in
     sym (no-walk c links v p) ∙ sym e)
-    (λ l. from-head c links (total c + 1) v l ∙ sym (or-none (c .heads) v l))
+    (λ l. at-head c links (total c + 1) v l ∙ sym (or-none (c .heads) v l))
 
 -- so where an operand with no walk is a process or none, it is what the operation takes
 pub at-hand : (c : Counts) (links : List ℕ) (f v : ℕ)
@@ -111,14 +59,14 @@ module _ (c : Counts) (m : ℕ) (t : List ℕ) (h : ℕ) (head : h ≤ c .heads)
       → ((y : ℕ) → In y l → c .heads < y) → length l ≤ k
       → processFrom c t k (getD t a 0) ≡ firstProcess c l
   along a [] k ch b f few =
-      ap (processFrom c t k) (sym (suc-at m t a (b a (inl refl))) ∙ ch .next) ∙ from-head c t k h head
+      ap (processFrom c t k) (sym (suc-at m t a (b a (inl refl))) ∙ ch .next) ∙ at-head c t k h head
   along a (z ∷ l) zero ch b f few = omega arith
   along a (z ∷ l) (suc k) ch b f few =
       let e : getD t a 0 ≡ z = sym (suc-at m t a (b a (inl refl))) ∙ ch .0 .next in
       ap (processFrom c t (suc k)) e
       ∙ test (isProcess c z)
-      (λ p. rw p (from-process c t (suc k) z (omega arith) p))
-      (λ p. rw p (from-on c t k z p (f z (inl refl))
+      (λ p. rw p (from-found (isProcess c) (c .heads) t (suc k) z (omega arith) p))
+      (λ p. rw p (from-on (isProcess c) (c .heads) t k z p (f z (inl refl))
       ∙ along z l k (ch .1) (λ y i. b y (inr i)) (λ y i. f y (inr i)) (omega arith)))
 
 -- on links that spell the sets, the first process along the ring of h is the first process of its list

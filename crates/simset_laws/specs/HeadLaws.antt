@@ -1,9 +1,11 @@
--- The walk from a link to its head: what the loop keeps, that it finds the head in whose list the link stands, and what that head is.
+-- The walk from a link to its head finds the head in whose list the link stands; what that head is, and how many clear removes.
 use Prim.Native.Nat.{ℕ, zero, suc, _+_, _-_, _<_, _≤_}
 use mathlib.Core.Path.{_≡_, refl, sym, ap, _∙_}
 use mathlib.Core.Logic.{_⊎_, inl, inr, ⊎-elim}
+use mathlib.Core.Bool.{Bool}
 use mathlib.Core.List.{List, [], _∷_}
 use native.Mathlib.Omega.{arith}
+use lib.Dec.{leb}
 use lib.ListN.{length, getD, set, length-append}
 use borrow.Author.Tests.{le-leb, lt-leb, leb-true, leb-false}
 use Rattle.ring_laws.specs.Lists.{In}
@@ -12,80 +14,39 @@ use Rattle.ring_laws.specs.Distinct.{joined}
 use Rattle.ring_laws.specs.Rings.{Head, Link}
 use Rattle.ring_laws.specs.Stores.{sucs, pres, suc-at}
 use Rattle.ring_laws.specs.Spell.{spells-few}
-use Rattle.ring_laws.specs.Table.{Sound}
 use Rattle.model_laws.specs.Tables.{setHead, membersOf, SpellsSets}
 use Rattle.simset_laws.specs.Sets.{clearSets}
-use Rattle.simset_laws.specs.Told.{headOf, headFrom, headAt}
+use Rattle.simset_laws.specs.Walk.{firstFrom, from-found, from-on}
+use Rattle.simset_laws.specs.Told.{headOf, headAt}
 use Rattle.simset_laws.specs.Laws.{nowhere}
 use Rattle.simset_laws.specs.QueryLaws.{found, lost}
-
--- ---- the clauses of the walk
-
-module _ (H : ℕ) (t : List ℕ) where
-  from-zero : (k i : ℕ) → k ≡ 0 → headFrom H t k i ≡ 0
-  unfolding headFrom
-  from-zero zero i e = refl
-  from-zero (suc k) i e = omega arith
-
-  from-head : (k i : ℕ) → 0 < k → i ≤ H → headFrom H t k i ≡ i
-  unfolding headFrom
-  from-head zero i s l = omega arith
-  from-head (suc k) i s l = rw (le-leb i H l)
-
-  from-on : (k i : ℕ) → H < i → headFrom H t (suc k) i ≡ headFrom H t k (getD t i 0)
-  unfolding headFrom
-  from-on k i l = rw (lt-leb i H l)
-
--- ---- the loop, begun behind x with m places to go: it is at i, with k places left
-
-pub record ToHead (m H : ℕ) (t : List ℕ) (x k i : ℕ) : Type 0 where
-  pub at : i < m
-  pub rest : headFrom H t k i ≡ headAt m H x t
-
-module _ (m H : ℕ) (t : List ℕ) (x : ℕ) (o : Sound m t) where
-  pub head-start : (a : ℕ) → a ≡ x → ToHead m H t x m (getD t a 0)
-  head-start a e = record { at = o .inside a; rest = ap (λ (j : ℕ). headAt m H j t) e }
-
-  module _ (k i : ℕ) (w : ToHead m H t x k i) where
-    pub head-out : k ≤ 0 → 0 ≡ headAt m H x t
-    head-out l = sym (from-zero H t k i (omega arith)) ∙ w .rest
-
-    pub head-found : 0 < k → i ≤ H → i ≡ headAt m H x t
-    head-found s l = sym (from-head H t k i s l) ∙ w .rest
-
-    pub head-on : 0 < k → H < i → (p : ℕ) → p ≡ i → ToHead m H t x (k - 1) (getD t p 0)
-    head-on s l p e =
-        record {
-          at = o .inside p;
-          rest =
-              ap (λ (j : ℕ). headFrom H t (k - 1) (getD t j 0)) e
-              ∙ sym (from-on H t (k - 1) i l)
-              ∙ ap (λ (n : ℕ). headFrom H t n i) one-more
-              ∙ w .rest;
-        }
-      where
-        one-more : suc (k - 1) ≡ k
-        one-more = omega arith
 
 -- ---- along the ring of h
 
 module _ (m H : ℕ) (t : List ℕ) (h : ℕ) (head : h ≤ H) where
+  abbrev isHead : ℕ → Bool
+  isHead i = leb i H
+
+  abbrev toHead : ℕ → ℕ → ℕ
+  toHead k i = firstFrom isHead H t k i
+
   -- from a on come the members l, then h
   along : (a : ℕ) (l : List ℕ) (k : ℕ) → Chain (sucs m t) (pres m t) a l h → a < m → ((y : ℕ) → In y l → (H < y) × (y < m))
-      → length l < k → headFrom H t k (getD t a 0) ≡ h
+      → length l < k → toHead k (getD t a 0) ≡ h
   along a [] k c b f few =
-      ap (headFrom H t k) (sym (suc-at m t a b) ∙ c .next) ∙ from-head H t k h (omega arith) head
+      ap (toHead k) (sym (suc-at m t a b) ∙ c .next) ∙ from-found isHead H t k h (omega arith) (le-leb h H head)
   along a (z ∷ l) zero c b f few = omega arith
   along a (z ∷ l) (suc k) c b f few =
-      ap (headFrom H t (suc k)) (sym (suc-at m t a b) ∙ c .0 .next)
-      ∙ from-on H t k z (f z (inl refl) .0)
+      let over : H < z = f z (inl refl) .0 in
+      ap (toHead (suc k)) (sym (suc-at m t a b) ∙ c .0 .next)
+      ∙ from-on isHead H t k z (lt-leb z H over) over
       ∙ along z l k (c .1) (f z (inl refl) .1) (λ y i. f y (inr i)) (omega arith)
 
   from-member : (a : ℕ) (l : List ℕ) (k x : ℕ) → Chain (sucs m t) (pres m t) a l h → ((y : ℕ) → In y l → (H < y) × (y < m))
-      → In x l → length l ≤ k → headFrom H t k (getD t x 0) ≡ h
+      → In x l → length l ≤ k → toHead k (getD t x 0) ≡ h
   from-member a [] k x c f i few = absurd i
   from-member a (z ∷ l) k x c f (inl e) few =
-      ap (λ (j : ℕ). headFrom H t k (getD t j 0)) e
+      ap (λ (j : ℕ). toHead k (getD t j 0)) e
       ∙ along z l k (c .1) (f z (inl refl) .1) (λ y i. f y (inr i)) (omega arith)
   from-member a (z ∷ l) k x c f (inr i) few = from-member z l k x (c .1) (λ y j. f y (inr j)) i (omega arith)
 
@@ -113,7 +74,10 @@ module _ (m H : ℕ) (sets : List (List ℕ)) (t : List ℕ) (s : SpellsSets m H
     head-says =
         ⊎-elim
         (λ w. head-at x (w .0) (w .1) (w .2) ∙ sym (head-in x (w .0) (w .1) (w .2)))
-        (λ z. ap (headFrom H t m) (sym (suc-at m t x (k .within)) ∙ z .0) ∙ from-head H t m 0 (omega arith) (omega arith) ∙ sym (off (z .0)))
+        (λ z.
+        ap (firstFrom (λ i. leb i H) H t m) (sym (suc-at m t x (k .within)) ∙ z .0)
+        ∙ from-found (λ i. leb i H) H t m 0 (omega arith) (le-leb 0 H (omega arith))
+        ∙ sym (off (z .0)))
         (s .spelled .rings .whole x k)
 
     -- "the head of the set that the link left, or none if it was in none"

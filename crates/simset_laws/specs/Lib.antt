@@ -3,6 +3,7 @@ pub mod Sets
 pub mod Procedures
 pub mod Calls
 pub mod Plain
+pub mod Walk
 pub mod Told
 pub mod Moves
 pub mod Promise

@@ -1,10 +1,9 @@
 -- What the set calls answer since request 2.1, on lists and on a table of links, both before the call: "the new figure is fixed by the set
 -- lists before the call".
-use Prim.Native.Nat.{ℕ, zero, suc, _+_}
+use Prim.Native.Nat.{ℕ, _+_}
 use mathlib.Core.List.{List}
 use lib.Dec.{leb}
 use lib.ListN.{length, getD}
-use Rattle.ring_laws.specs.Lists.{if_then_else_}
 use Rattle.model.specs.declared.Counts.{Counts}
 use Rattle.model.specs.Counts.{total, isLink}
 use Rattle.model.specs.declared.answer.Answer.{Answer}
@@ -16,6 +15,7 @@ use Rattle.model_laws.specs.Called.{ifAccepted, answering}
 use Rattle.simset_laws.specs.Sets.{whereIn}
 use Rattle.simset_laws.specs.Calls.{Linked, toldIf, cardinalTold, onLinks, ofLinks}
 use Rattle.simset_laws.specs.Plain.{linksAfter}
+use Rattle.simset_laws.specs.Walk.{firstFrom}
 
 -- ---- on lists
 
@@ -34,14 +34,9 @@ setTells (Clear h) sets = Number (length (membersOf sets h))
 
 -- ---- on a table of links, whose heads are 1 .. H
 
--- along a ring from i on, by at most k places, to its head; none where i is none
-unfoldable pub headFrom : ℕ → List ℕ → ℕ → ℕ → ℕ
-headFrom H t zero i = 0
-headFrom H t (suc k) i = if leb i H then i else headFrom H t k (getD t i 0)
-
--- the head of the ring on which the link x lies, none where it lies on none
+-- the head of the ring on which the link x lies: the first head behind it, none where it lies on no ring
 abbrev pub headAt : ℕ → ℕ → ℕ → List ℕ → ℕ
-headAt m H x t = headFrom H t m (getD t x 0)
+headAt m H x t = firstFrom (λ i. leb i H) H t m (getD t x 0)
 
 -- refused where x is no link, as the calls are then
 unfoldable pub headTold : Counts → ℕ → List ℕ → Answer

@@ -1,7 +1,6 @@
 -- Request 2.1 worked out: set calls one after the other from the fresh model, and what each answers, on lists and on tables, by one check.
-use Prim.Native.Nat.{ℕ, _+_}
 use mathlib.Core.Path.{_≡_, refl}
-use mathlib.Core.Bool.{Bool, true, false, _&&_}
+use mathlib.Core.Bool.{Bool, true, _&&_}
 use mathlib.Core.List.{List, [], _∷_}
 use lib.Dec.{eqb}
 use Rattle.ring_laws.specs.Table.{unlinked, linkedBehind, linkedBefore, selfLinked, steps}
@@ -12,13 +11,14 @@ use Rattle.model.specs.declared.answer.Answer.the-variants.{Linkage, Number, Re
 use Rattle.model.specs.Answers.{codeOf, valueOf}
 use Rattle.model.specs.declared.call.SetCall.{SetCall}
 use Rattle.model.specs.declared.call.SetCall.the-variants.{Out, Follow, Precede, Into, Clear}
-use Rattle.model_laws.specs.Tables.{Tables, Lists, After}
+use Rattle.model_laws.specs.Tables.{Tables, Lists}
 use Rattle.model_laws.specs.Fresh.{freshHeads, freshAxis, freshTables, freshLists}
 use Rattle.model_laws.specs.Result.{Result, refused, done}
 use Rattle.simset_laws.specs.Procedures.{followOn, followed, precedeOn, preceded, clearing, cleared}
 use Rattle.simset_laws.specs.Calls.{outStep, followStep, precedeStep, intoStep, clearStep, cardinalTold}
 use Rattle.simset_laws.specs.Plain.{setCall}
-use Rattle.simset_laws.specs.Told.{setTells, headFrom, headTold, setAnswered}
+use Rattle.simset_laws.specs.Walk.{firstFrom}
+use Rattle.simset_laws.specs.Told.{setTells, headTold, setAnswered}
 
 -- heads 1 and 2, main 3, links 4 to 6
 abbrev c : Counts
@@ -53,15 +53,15 @@ rows =
     ∷ row (Clear 3) (Refused Operand)
     ∷ []
 
-abbrev same : Answer → Answer → Bool
+abbrev pub same : Answer → Answer → Bool
 same a b = eqb (codeOf a) (codeOf b) && eqb (valueOf a) (valueOf b)
 
 -- on lists: a refused call leaves them and answers its refusal
-abbrev left : Lists → Result Lists → Lists
+abbrev pub left : Lists → Result Lists → Lists
 left l (refused q) = l
 left l (done k) = k
 
-abbrev answered : Answer → Result Lists → Answer
+abbrev pub answered : Answer → Result Lists → Answer
 answered v (refused q) = Refused q
 answered v (done k) = v
 
@@ -77,5 +77,5 @@ tabled (r ∷ rs) t = same (setAnswered c (r .call) t .answer) (r .answer) && ta
 
 pub told-each : listed rows (freshLists c) && tabled rows (freshTables c) ≡ true
 unfolding rows freshHeads freshAxis freshTables selfLinked unlinked linkedBehind linkedBefore steps followOn followed precedeOn preceded
-    clearing cleared outStep followStep precedeStep intoStep clearStep cardinalTold headFrom headTold
+    clearing cleared outStep followStep precedeStep intoStep clearStep cardinalTold firstFrom headTold
 told-each = refl

@@ -1,12 +1,14 @@
+use Prim.Native.Nat.{_+_}
 use mathlib.Core.Path.{sym, _∙_}
 use borrow.Author.Needs.{needs}
 use native.Mathlib.Omega.{arith}
-use Rattle.run_laws.specs.Walking.{Walking, walk-start, walk-found, walk-none, walk-on, walk-out}
+use Rattle.model.specs.Counts.{isProcess, total}
+use Rattle.simset_laws.specs.Walk.{Walking, walk-start, walk-found, walk-none, walk-on, walk-out}
 use Rattle.run_step.proofs.members.walk.Statement.{statement}
 use Rattle.run_step.proofs.members.walk.Tie as tie
 
 abbrev Inv-loop : tie.InvT-loop
-Inv-loop c links v k₀ i₀ k i = Walking c links v k i
+Inv-loop c links v k₀ i₀ k i = Walking (isProcess c) (c .heads) (total c + 1) links v k i
 
 abbrev μ-loop : tie.MeasureT-loop
 μ-loop c links v k₀ i₀ k i = k
@@ -34,16 +36,16 @@ add-k : tie.Need-add-k Inv-loop μ-loop
 add-k c = search needs
 
 loop-holds : tie.Need-loop-holds Inv-loop μ-loop
-loop-holds c = walk-start _ _ _ (start (search) .pre .1) _ (omega (arith, c .total .ensures))
+loop-holds c = walk-start _ _ _ _ _ (start (search) .pre .1) _ (omega (arith, c .total .ensures))
 
 is-process-requires : tie.Need-is-process-requires Inv-loop μ-loop
 is-process-requires c κs = search needs
 
 returns : tie.Need-returns Inv-loop μ-loop
-returns c = walk-found _ _ _ _ _ (at-loop (search) .loop .inv) (in-loop (search) .loop-test .taken) (sym (c .before .is-process .ensures) ∙ c .if1 .taken)
+returns c = walk-found _ _ _ _ _ _ _ (at-loop (search) .loop .inv) (in-loop (search) .loop-test .taken) (sym (c .before .is-process .ensures) ∙ c .if1 .taken)
 
 returns-2 : tie.Need-returns-2 Inv-loop μ-loop
-returns-2 c = walk-none _ _ _ _ _ (at-loop (search) .loop .inv) (in-loop (search) .loop-test .taken) (c .if2 .taken)
+returns-2 c = walk-none _ _ _ _ _ _ _ (at-loop (search) .loop .inv) (in-loop (search) .loop-test .taken) (sym (asked (search) .is-process .ensures) ∙ other (search) .if1 .left) (c .if2 .taken)
 
 wide-requires : tie.Need-wide-requires Inv-loop μ-loop
 wide-requires c κs = search needs
@@ -61,10 +63,10 @@ loop-less : tie.Need-loop-less Inv-loop μ-loop
 loop-less c = search needs
 
 loop-again : tie.Need-loop-again Inv-loop μ-loop
-loop-again c = walk-on _ _ _ _ _ (at-loop (search) .loop .inv) (in-loop (search) .loop-test .taken) (start (search) .pre .0) (sym (asked (search) .is-process .ensures) ∙ other (search) .if1 .left) (c .before .before .if2 .left) _ (rw (c .before .wide .ensures))
+loop-again c = walk-on _ _ _ _ _ _ _ (at-loop (search) .loop .inv) (in-loop (search) .loop-test .taken) (start (search) .pre .0) (sym (asked (search) .is-process .ensures) ∙ other (search) .if1 .left) (c .before .before .if2 .left) _ (rw (c .before .wide .ensures))
 
 returns-3 : tie.Need-returns-3 Inv-loop μ-loop
-returns-3 c = walk-out _ _ _ _ _ (c .before .loop .inv) (c .loop-test .left)
+returns-3 c = walk-out _ _ _ _ _ _ _ (c .before .loop .inv) (c .loop-test .left)
 
 pub walk-spec : {M : Type 1} → statement M
 walk-spec =

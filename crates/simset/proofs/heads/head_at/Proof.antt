@@ -1,11 +1,15 @@
 use borrow.Author.Needs.{needs}
 use native.Mathlib.Omega.{arith}
-use Rattle.simset_laws.specs.HeadLaws.{ToHead, head-start, head-found, head-on, head-out}
+use mathlib.Core.Path.{refl}
+use lib.Dec.{leb}
+use lib.ListN.{getD}
+use borrow.Author.Tests.{le-leb, lt-leb}
+use Rattle.simset_laws.specs.Walk.{Walking, walk-start, walk-found, walk-on, walk-out}
 use Rattle.simset.proofs.heads.head_at.Statement.{statement}
 use Rattle.simset.proofs.heads.head_at.Tie as tie
 
 abbrev Inv-loop : tie.InvT-loop
-Inv-loop t m heads x a i₀ k₀ i k = ToHead m heads t x k i
+Inv-loop t m heads x a i₀ k₀ i k = Walking (λ j. leb j heads) heads m t (getD t x 0) k i
 
 abbrev μ-loop : tie.MeasureT-loop
 μ-loop t m heads x a i₀ k₀ i k = k
@@ -30,10 +34,10 @@ shared-slice-read-i : tie.Need-shared-slice-read-i Inv-loop μ-loop
 shared-slice-read-i c = omega (arith, c .before .wide .ensures, start (search) .pre .1, start (search) .pre .0 .two)
 
 loop-holds : tie.Need-loop-holds Inv-loop μ-loop
-loop-holds c = head-start _ _ _ _ (start (search) .pre .0) _ (c .before .wide .ensures)
+loop-holds c = rw (c .before .wide .ensures) (walk-start _ _ _ _ _ (start (search) .pre .0 .inside _) _ refl)
 
 returns : tie.Need-returns Inv-loop μ-loop
-returns c = head-found _ _ _ _ (start (search) .pre .0) _ _ (at-loop (search) .loop .inv) (in-loop (search) .loop-test .taken) (c .if1 .taken)
+returns c = walk-found _ _ _ _ _ _ _ (at-loop (search) .loop .inv) (in-loop (search) .loop-test .taken) (le-leb _ _ (c .if1 .taken))
 
 wide-requires-2 : tie.Need-wide-requires-2 Inv-loop μ-loop
 wide-requires-2 c κs = search needs
@@ -51,10 +55,10 @@ loop-less : tie.Need-loop-less Inv-loop μ-loop
 loop-less c = search needs
 
 loop-again : tie.Need-loop-again Inv-loop μ-loop
-loop-again c = head-on _ _ _ _ (start (search) .pre .0) _ _ (at-loop (search) .loop .inv) (in-loop (search) .loop-test .taken) (c .before .before .if1 .left) _ (c .before .wide2 .ensures)
+loop-again c = walk-on _ _ _ _ _ _ _ (at-loop (search) .loop .inv) (in-loop (search) .loop-test .taken) (start (search) .pre .0) (lt-leb _ _ (c .before .before .if1 .left)) (c .before .before .if1 .left) _ (rw (c .before .wide2 .ensures))
 
 returns-2 : tie.Need-returns-2 Inv-loop μ-loop
-returns-2 c = head-out _ _ _ _ (start (search) .pre .0) _ _ (c .before .loop .inv) (c .loop-test .left)
+returns-2 c = walk-out _ _ _ _ _ _ _ (c .before .loop .inv) (c .loop-test .left)
 
 pub head-at-spec : {M : Type 1} → statement M
 head-at-spec =
