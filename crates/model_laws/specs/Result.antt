@@ -63,3 +63,13 @@ called-kept c f k t r e = go (judged c t) e
     go : (v : Verdict) → turning v t (f t) .answer ≡ Refused r → turning v t (f t) .tables ≡ t
     go Fine q = k t r q
     go (Turned p) q = refl
+
+-- "The tables after each call stay as published": a public call that tells something leaves, on any tables, what it leaves that does not
+pub answering-leaves : (c : Counts) (told : Tables → Answer) (f : Tables → After Answer) (t : Tables)
+    → called c (answering told f) t .tables ≡ called c f t .tables
+unfolding called
+answering-leaves c told f t = go (judged c t)
+  where
+    go : (v : Verdict) → turning v t (answering told f t) .tables ≡ turning v t (f t) .tables
+    go Fine = refl
+    go (Turned p) = refl

@@ -34,3 +34,4 @@ pub mod PublicCalls
 pub mod PublicLaws
 pub mod Ties
 pub mod Forward
+pub mod ToldWorked
