@@ -1,6 +1,7 @@
 // The calls and queries of SIMSET and SIMULATION that document 01 names, as values. Operands are linkages' numbers, 0 for none.
 
-// What a set call does. X is the link it is called on, Y the second party; clear and into take a head.
+// What a set call does. X is the link it is called on, Y the second party; clear and into take a head. The first four answer the head of the
+// set that X left, or none if it was in none; clear answers how many it removed.
 pub enum SetCall {
     // X leaves its set, if it is in one.
     Out(u32),
@@ -19,7 +20,7 @@ pub enum SequencingCall {
     Hold(i64),
     // Current's notice is removed.
     Passivate,
-    // Current goes last into the set of the head, and its notice is removed.
+    // Current goes last into the set of the head, and its notice is removed; the head of the set that it left is answered.
     Wait(u32),
     // The process's notice is removed, if it has one.
     Cancel(u32),
