@@ -47,9 +47,16 @@ pub fn expected(request: &Request) -> Response {
     }
     let (code, answer) = match direct(request, &mut lent) {
         Ok(answer) => (0, answer),
-        Err(refusal) => (refusal, 0),
+        Err(refusal) => (refusal, if on(M::RefusedTells) { head_of_x(request) } else { 0 }),
     };
     Response { code, lines: 0, answer, lent }
+}
+
+/// The head that a refused set call would have left.
+fn head_of_x(request: &Request) -> u64 {
+    let model = tables::decode(request.counts, &request.lent.tables);
+    let moves = matches!(request.call.number, number::OUT..=number::INTO);
+    model.ok().filter(|_| moves).map_or(0, |model| u64::from(model.head_of(request.call.x)))
 }
 
 /// A call on the tables themselves: 1 and 2 on the whole model, then the call on its lists.

@@ -1,5 +1,6 @@
 //! Which calls and refusals the generated streams come to.
 
+use super::left::Left;
 use super::reached::Reached;
 use crate::drive::tally::Tally;
 use crate::expected::expected;
@@ -46,10 +47,11 @@ struct Reach {
     now_at_limit: u32,
     three_at_one_time: u32,
     main_idle: u32,
+    left: Left,
 }
 
 impl Reach {
-    fn count(&mut self, request: &Request) {
+    fn count(&mut self, request: &Request, code: u32) {
         let Ok(model) = decode(request.counts, &request.lent.tables) else { return };
         let largest = request.counts == Counts::new(MAX_HEADS, MAX_PROCESSES, MAX_PLAIN);
         let tie = model.notices.windows(3).any(|w| w[0].time == w[2].time);
@@ -57,6 +59,7 @@ impl Reach {
         self.now_at_limit += u32::from(model.time() == LIMIT);
         self.three_at_one_time += u32::from(tie);
         self.main_idle += u32::from(model.notice_of(model.counts.main()).is_none());
+        self.left.count(request, &model, code);
     }
 
     fn check(&self, tally: &mut Tally) {
@@ -70,6 +73,7 @@ impl Reach {
             println!("{name}: {count}");
             tally.check(count > 0, &format!("never met: {name}"));
         }
+        self.left.check(tally);
     }
 }
 
@@ -87,7 +91,7 @@ pub fn check(tally: &mut Tally, seed: u64) {
             request.lengths().iter().zip(SIZES).all(|(length, size)| length <= size),
             "a request past the sizes",
         );
-        reach.count(&request);
+        reach.count(&request, code);
     }
     print("call", &met);
     reach.check(tally);

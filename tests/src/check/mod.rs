@@ -2,6 +2,7 @@
 
 pub mod catches;
 pub mod histogram;
+pub mod left;
 pub mod queues;
 pub mod reached;
 pub mod readings;

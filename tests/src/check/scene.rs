@@ -53,14 +53,17 @@ pub fn call(number: u32, x: &str, y: &str, clause: u32, t: i64) -> Call {
     Call { number, clause, x: linkage(x), y: linkage(y), t }
 }
 
-/// What a call on the scene comes to, through the tables: "refused 4", "answer 5", or the scene after it.
+/// What a call on the scene comes to, through the tables: "refused 4", "answer 5" of a query, or the scene after it, of
+/// calls that answer a head or a number too with that behind it, "M0 | A : 1".
 pub fn outcome(scene: &str, call: Call) -> String {
     let tables = encode(&model(scene));
     let lent = Lent { tables: tables.clone(), ..Lent::default() };
     let response = expected(&Request { call, counts: COUNTS, lent, sheet: Vec::new() });
     let unchanged = response.lent.tables == tables;
+    let tells = matches!(call.number, number::OUT..=number::CLEAR | number::WAIT);
     match (response.code, response.answer) {
         (0, 0) => text_after(&response),
+        (0, answer) if tells => format!("{} : {answer}", text_after(&response)),
         (0, answer) if unchanged => format!("answer {answer}"),
         (code, 0) if unchanged => format!("refused {code}"),
         _ => "changed by a refused call or a query".to_string(),

@@ -27,7 +27,7 @@ fn twelve(tally: &mut Tally) {
     situation(9, "M0 A5", call(op::REACTIVATE, "A", "A", 5, 0), "M0 A5");
     situation(10, "M0 A5", call(op::REACTIVATE, "M", "B", 6, 0), "A5");
     situation(11, "M0", call(op::REACTIVATE, "M", "B", 6, 0), "refused 4");
-    situation(12, "M0 | A", call(op::FOLLOW, "A", "A", 0, 0), "M0");
+    situation(12, "M0 | A", call(op::FOLLOW, "A", "A", 0, 0), "M0 : 1");
 }
 
 /// The worked sheet, and others whose last line is easily told.

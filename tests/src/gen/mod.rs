@@ -4,6 +4,7 @@ pub mod accums;
 pub mod buffers;
 pub mod damage;
 pub mod extreme;
+pub mod leaving;
 pub mod models;
 pub mod operands;
 pub mod prints;

@@ -2,7 +2,7 @@
 
 use super::models::Walk;
 use super::operands::{call, Manner};
-use super::{accums, damage, runs, Case};
+use super::{accums, damage, leaving, runs, Case};
 use crate::expected::known;
 use crate::protocol::{Lent, Request};
 use crate::rng::Rng;
@@ -29,6 +29,8 @@ pub struct Stream {
     rng: Rng,
     walk: Walk,
     calls: Vec<(u32, u64)>,
+    /// The queues that links leave come first.
+    queues: std::vec::IntoIter<Case>,
 }
 
 impl Stream {
@@ -37,11 +39,16 @@ impl Stream {
         let mut rng = Rng::new(seed);
         let walk = Walk::new(&mut rng);
         let chosen = all_calls().into_iter().filter(|call| only.is_empty() || only.contains(call));
-        let calls = chosen.map(|call| (call, weight(call))).collect();
-        Stream { rng, walk, calls }
+        let calls: Vec<(u32, u64)> = chosen.map(|call| (call, weight(call))).collect();
+        let mut queues = leaving::all();
+        queues.retain(|case| calls.iter().any(|(call, _)| *call == case.request.call.number));
+        Stream { rng, walk, calls, queues: queues.into_iter() }
     }
 
     pub fn next(&mut self) -> Case {
+        if let Some(case) = self.queues.next() {
+            return case;
+        }
         let number = self.rng.weighted(&self.calls);
         match number {
             number::RUN => return runs::case(&mut self.rng),
@@ -49,6 +56,9 @@ impl Stream {
             number::FRESH => return runs::fresh(&mut self.rng),
             number::CHECK => return runs::check(&mut self.rng),
             _ => {}
+        }
+        if leaving::has(number) && self.rng.chance(8) {
+            return leaving::any(&mut self.rng, number);
         }
         self.walk.go_on(&mut self.rng);
         if number == number::FINISH && self.rng.chance(60) {

@@ -65,21 +65,29 @@ impl Model {
     pub fn make(&mut self, call: Call) -> Result<u64, Refusal> {
         match call.number {
             number::FIRST..=number::NEXTEV | number::EMPTY => self.query(call),
-            _ => self.change(call).map(|()| 0),
+            number::OUT..=number::CLEAR | number::WAIT => self.leave(call).map(u64::from),
+            _ => self.schedule(call).map(|()| 0),
         }
     }
 
-    fn change(&mut self, call: Call) -> Result<(), Refusal> {
-        let Call { x, y, t, .. } = call;
+    /// The calls after which links may be in other sets. They answer the head that was left, clear how many left it.
+    fn leave(&mut self, call: Call) -> Result<u32, Refusal> {
+        let Call { x, y, .. } = call;
         match call.number {
             number::OUT => self.out(x),
             number::FOLLOW => self.beside(x, y, Side::Behind),
             number::PRECEDE => self.beside(x, y, Side::InFront),
             number::INTO => self.enter(x, y),
             number::CLEAR => self.clear(x),
+            _ => self.wait(y),
+        }
+    }
+
+    fn schedule(&mut self, call: Call) -> Result<(), Refusal> {
+        let Call { x, y, t, .. } = call;
+        match call.number {
             number::HOLD => self.hold(t),
             number::PASSIVATE => self.passivate(),
-            number::WAIT => self.wait(y),
             number::CANCEL => self.cancel(x),
             number::FINISH => self.finish(),
             _ => {

@@ -1,5 +1,7 @@
 //! The model as plain lists: the members of each head, the notices in order, the terminated.
 
+use crate::mutations::{on, M};
+
 /// The number of a refusal, 1 to 8.
 pub type Refusal = u32;
 
@@ -102,6 +104,12 @@ impl Model {
     /// The index of the set that holds this link.
     pub fn set_of(&self, link: u32) -> Option<usize> {
         self.sets.iter().position(|set| set.contains(&link))
+    }
+
+    /// The head of the set that holds this link, 0 if none does.
+    pub fn head_of(&self, link: u32) -> u32 {
+        let near = |set: &Vec<u32>| !on(M::WalkOf512) || set.iter().rev().take(512).any(|&member| member == link);
+        self.set_of(link).filter(|&s| near(&self.sets[s])).map_or(0, |s| s as u32 + 1)
     }
 
     /// The members of a head.

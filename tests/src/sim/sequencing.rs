@@ -42,13 +42,18 @@ impl Model {
         Ok(())
     }
 
-    /// Into the set by current, then passivate; on none it is out, then passivate.
-    pub fn wait(&mut self, y: u32) -> Result<(), Refusal> {
+    /// Into the set by current, then passivate; on none it is out, then passivate. Answers the head that current left.
+    pub fn wait(&mut self, y: u32) -> Result<u32, Refusal> {
         self.head_or_none(y)?;
         require(y != 0 || !on(M::WaitNoneRefused), 3)?;
         require(self.notices.len() > 1 || on(M::WaitRefusedEnters), 4)?;
-        self.enter(self.current(), y)?;
-        self.passivate()
+        let left = self.enter(self.current(), y)?;
+        self.passivate()?;
+        Ok(match left {
+            _ if on(M::WaitTellsNothing) => 0,
+            _ if on(M::WaitTellsNext) => self.head_of(self.current()),
+            _ => left,
+        })
     }
 
     pub fn cancel(&mut self, x: u32) -> Result<(), Refusal> {

@@ -40,29 +40,55 @@ impl Model {
         self.insert_beside(x, y, side);
     }
 
-    pub fn out(&mut self, x: u32) -> Result<(), Refusal> {
+    /// Answers the head of the set that the link left, 0 if it was in none.
+    pub fn out(&mut self, x: u32) -> Result<u32, Refusal> {
         require(self.counts.is_link(x), 3)?;
         require(!on(M::OutUnlinkedRefused) || self.set_of(x).is_some(), 3)?;
+        let left = self.head_of(x);
         self.unlink(x);
-        Ok(())
+        Ok(self.told(left, x, None))
     }
 
-    /// Follow and precede; none for y is out alone.
-    pub fn beside(&mut self, x: u32, y: u32, side: Side) -> Result<(), Refusal> {
+    /// Follow and precede; none for y is out alone. Answers the head that out does.
+    pub fn beside(&mut self, x: u32, y: u32, side: Side) -> Result<u32, Refusal> {
         require(self.counts.is_link(x), 3)?;
         require(y == 0 || self.counts.is_linkage(y), 3)?;
         require(y != 0 || !on(M::SecondNoneRefused), 3)?;
+        let left = self.head_of(x);
         self.move_beside(x, y, side);
-        Ok(())
+        Ok(self.told(left, x, Some(y)))
     }
 
     /// Into takes a head or none; it is precede of the head.
-    pub fn enter(&mut self, x: u32, y: u32) -> Result<(), Refusal> {
+    pub fn enter(&mut self, x: u32, y: u32) -> Result<u32, Refusal> {
         require(self.counts.is_link(x), 3)?;
         self.head_or_none(y)?;
         require(y != 0 || !on(M::SecondNoneRefused), 3)?;
+        let left = self.head_of(x);
         self.move_beside(x, y, Side::InFront);
-        Ok(())
+        Ok(self.told(left, x, Some(y)))
+    }
+
+    /// What a call tells that took x from the set of `left` and, unless it was out, put it beside y; the misreadings tell
+    /// something else.
+    fn told(&self, left: u32, x: u32, y: Option<u32>) -> u32 {
+        let after = || self.head_of(x);
+        let beside = y.unwrap_or(0);
+        let hidden = (on(M::OutAloneTells) && y.is_some())
+            || (on(M::MoveWithinTellsNone) && after() == left)
+            || (on(M::SelfTellsNone) && x == beside)
+            || (on(M::NowhereTellsNone) && beside != 0 && after() == 0)
+            || (on(M::NoneTellsNone) && y == Some(0))
+            || (on(M::ProcessTellsNone) && self.counts.is_process(x))
+            || (on(M::LastHeadTellsNone) && left == self.counts.heads);
+        match left {
+            _ if hidden => 0,
+            _ if on(M::HeadAfterTold) => after(),
+            _ if on(M::HeadOfYTold) && self.counts.is_head(beside) => beside,
+            _ if on(M::HeadOfYTold) && y.is_some() => self.head_of(beside),
+            0 if on(M::NoneLeftTellsEntered) => after(),
+            _ => left,
+        }
     }
 
     pub fn head_or_none(&self, y: u32) -> Result<(), Refusal> {
@@ -70,15 +96,24 @@ impl Model {
         require(y == 0 || self.counts.is_head(y) || link_taken, 3)
     }
 
-    pub fn clear(&mut self, x: u32) -> Result<(), Refusal> {
+    /// Answers how many members it removed.
+    pub fn clear(&mut self, x: u32) -> Result<u32, Refusal> {
         require(self.counts.is_head(x), 3)?;
         let set = &mut self.sets[x as usize - 1];
+        let removed = set.len() as u32;
         if on(M::ClearFirstOnly) && set.len() > 1 {
             set.remove(0);
         } else {
             set.clear();
         }
-        Ok(())
+        Ok(match removed {
+            _ if on(M::ClearTellsHead) => x,
+            _ if on(M::ClearTellsWhether) => removed.min(1),
+            _ if on(M::ClearCountsHead) => removed + 1,
+            _ if on(M::ClearCountsByte) => removed % 256,
+            _ if on(M::ClearCountsHalf) => removed.min(512),
+            _ => removed,
+        })
     }
 
     pub fn first(&self, x: u32) -> Result<u32, Refusal> {
