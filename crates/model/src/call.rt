@@ -1,7 +1,7 @@
 // The calls and queries of SIMSET and SIMULATION that document 01 names, as values. Operands are linkages' numbers, 0 for none.
 
-// What a set call does. X is the link it is called on, Y the second party; clear and into take a head. The first four answer the head of the
-// set that X left, or none if it was in none; clear answers how many it removed.
+// What a set call does. X is the link it is called on, Y the second party; clear and into take a head. The first four answer the head of
+// the set that X left, or none if it was in none; clear answers how many it removed.
 pub enum SetCall {
     // X leaves its set, if it is in one.
     Out(u32),

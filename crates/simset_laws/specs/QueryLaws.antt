@@ -92,7 +92,8 @@ module _ (m H : ℕ) (sets : List (List ℕ)) (t : List ℕ) (s : SpellsSets m H
   above h y a i = leb-false y H (r .only h y a i .isn't)
 
   -- x is on the ring of h alone, so the search by lists finds that list
-  pub found : (f : ℕ → List ℕ → ℕ) (x h : ℕ) → Head m (setHead H) h → In x (h ∷ membersOf sets h) → whereIn f x 1 sets ≡ f h (membersOf sets h)
+  pub found : (f : ℕ → List ℕ → ℕ) (x h : ℕ) → Head m (setHead H) h → In x (h ∷ membersOf sets h)
+      → whereIn f x 1 sets ≡ f h (membersOf sets h)
   found f x h a on =
       let e : 1 + (h - 1) ≡ h = omega (arith, a .some) in
       let hl : h ≤ H = leb-true h H (a .is) in

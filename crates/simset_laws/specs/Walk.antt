@@ -63,7 +63,11 @@ module _ (f : ℕ → Bool) (H m : ℕ) (t : List ℕ) (v : ℕ) where
       walk-on s e l j is =
           record {
             at = omega (arith, s .inside i);
-            rest = ap (firstFrom f H t (k - 1)) is ∙ sym (from-on f H t (k - 1) i e l) ∙ ap (λ (n : ℕ). firstFrom f H t n i) one-more ∙ w .rest;
+            rest =
+                ap (firstFrom f H t (k - 1)) is
+                ∙ sym (from-on f H t (k - 1) i e l)
+                ∙ ap (λ (n : ℕ). firstFrom f H t n i) one-more
+                ∙ w .rest;
           }
         where
           one-more : suc (k - 1) ≡ k

@@ -52,7 +52,8 @@ pub fn sequencing_call(
     call: SequencingCall,
 ) -> Answer
     ensures { λ r. ⌜ record { tables = modelOf (now (links .exit)) (now (axis .exit)) (now (times .exit)) (now (marks .exit)); answer = r }
-        ≡ called c (sequencingAnswered c call) (modelOf (now (links .entry)) (now (axis .entry)) (now (times .entry)) (now (marks .entry))) ⌝ }
+        ≡ called c (sequencingAnswered c call) (modelOf (now (links .entry)) (now (axis .entry)) (now (times .entry))
+        (now (marks .entry))) ⌝ }
 {
     let v = judge_tables(c, links, axis, times, marks);
     match v {

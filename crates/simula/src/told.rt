@@ -76,6 +76,7 @@ fn if_accepted(a: Answer, told: Answer) -> Answer
     }
 }
 
+// The step of a call, answered by what was told before it.
 pub(crate) fn set_answer(c: Counts, links: &mut [u32], call: SetCall) -> Answer
     requires { ⌜ Sound (total c + 1) (now links) ⌝ }
     ensures { λ r. ⌜ Moved (total c + 1) (linksAnswered c call (now (links .entry))) (record { links = now (links .exit); answer = r }) ⌝ }

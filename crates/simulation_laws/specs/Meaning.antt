@@ -159,7 +159,8 @@ module _ (c : Counts) (l : Lists) (t : Tables) (w : Sized c t) (s : Spells c l t
       (modelOf (preceded (total c + 1) (current l) y (t .links)) (t .axis) (t .times) (t .marks))
   entered y g =
       record {
-        links = sets-preceded (total c + 1) (c .heads) (l .sets) (t .links) (s .links) (omega arith) (current l) (link-of c (current l) current-link) y
+        links = sets-preceded (total c + 1) (c .heads) (l .sets) (t .links) (s .links) (omega arith) (current l)
+            (link-of c (current l) current-link) y
             (none-or (isHead c y) y (total c) (head-in c y) g);
         axis = s .axis;
         times = s .times;
