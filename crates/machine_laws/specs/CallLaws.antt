@@ -17,8 +17,8 @@ use Rattle.model_laws.specs.Tables.{Lists}
 use Rattle.model_laws.specs.Result.{need, done, refused, Result}
 use Rattle.model_laws.specs.Now.{first, time, current}
 use Rattle.simset_laws.specs.Calls.{orNone}
-use Rattle.simset_laws.specs.Sets.{precedeSets}
-use Rattle.simset_laws.specs.Plain.{withSets, setsAfter, kindsFine}
+use Rattle.simset_laws.specs.Sets.{precedeSets, exceeds}
+use Rattle.simset_laws.specs.Plain.{withSets, setsAfter, kindsFine, crowds, unlessFull}
 use Rattle.simulation_laws.specs.NoticeOps.{behindAll, dropped, hasNotice, rest}
 use Rattle.simulation_laws.specs.NoticeLaws.{rest-drop, drop-in}
 use Rattle.simulation_laws.specs.BesideLaws.{before-none, after-none}
@@ -44,6 +44,10 @@ module _ (p : Placing) (old : List Notice) where
   by-need : (b : Bool) (r : Result Lists) → Notices p old r → Notices p old (need b r)
   by-need true r f = f
   by-need false r f = tt
+
+  by-full : (b : Bool) (r : Result Lists) → Notices p old r → Notices p old (unlessFull b r)
+  by-full true r f = tt
+  by-full false r f = f
 
   by-limit : (u : ℕ) (r : Result Lists) → Notices p old r → Notices p old (upTo u r)
   by-limit u r f = test (leb u limit) (λ e. rw e f) (λ e. rw e tt)
@@ -123,12 +127,15 @@ module _ (c : Counts) (l : Lists) (n : Notice) (ns : List Notice) (e : l .notice
 
   pub call-notices : (k : ListCall) → Notices (listPlacing k l) old (listsAfter c k l)
   unfolding listPlacing listsAfter plain.passivate plain.wait plain.cancel plain.finish
-  call-notices (onSet k) = by-need nothing old (kindsFine c k) (done (withSets l (setsAfter k (l .sets)))) (stepwise-same old)
+  call-notices (onSet k) =
+      by-need nothing old (kindsFine c k) _
+      (by-full nothing old (crowds k (l .sets)) (done (withSets l (setsAfter k (l .sets)))) (stepwise-same old))
   call-notices (hold z) = hold-notices z
   call-notices passivate = by-leaving nothing old l (rest old) rest-gone
   call-notices (wait y) =
-      by-need nothing old (orNone (isHead c y) y) _ (by-leaving nothing old (withSets l (precedeSets (current l) y (l .sets))) (rest old)
-      rest-gone)
+      by-need nothing old (orNone (isHead c y) y) _
+      (by-full nothing old (exceeds (precedeSets (current l) y (l .sets))) _
+      (by-leaving nothing old (withSets l (precedeSets (current l) y (l .sets))) (rest old) rest-gone))
   call-notices (cancel x) = by-need nothing old (orNone (isProcess c x) x)
       _ (by-leaving nothing old l (dropped x old) (stepwise-drop x old))
   call-notices (activate again k x y z) = timed-notices again k x y z
@@ -138,17 +145,18 @@ module _ (c : Counts) (l : Lists) (n : Notice) (ns : List Notice) (e : l .notice
       (by-leaving nothing old (withTerminated l (current l ∷ l .terminated)) (rest old) rest-gone)
 
   -- no call takes time back
-  set-later : (b : Bool) (k : Lists) → k .notices ≡ old → Later (time l) (need b (done k))
-  set-later true k q = rw (ap (λ (m : List Notice). first m .due) q) (omega arith)
-  set-later false k q = tt
+  set-later : (b f : Bool) (k : Lists) → k .notices ≡ old → Later (time l) (need b (unlessFull f (done k)))
+  set-later true false k q = rw (ap (λ (m : List Notice). first m .due) q) (omega arith)
+  set-later true true k q = tt
+  set-later false f k q = tt
 
   pub call-forward : (k : ListCall) → Later (time l) (listsAfter c k l)
   unfolding listsAfter
-  call-forward (onSet k) = set-later (kindsFine c k) (withSets l (setsAfter k (l .sets))) refl
+  call-forward (onSet k) = set-later (kindsFine c k) (crowds k (l .sets)) (withSets l (setsAfter k (l .sets))) refl
   call-forward (hold z) = hold-forward l n ns e (rw e at o) z
   call-forward passivate = passivate-forward l n ns e (rw e at o)
   call-forward (wait y) = wait-forward l n ns e (rw e at o) c y
   call-forward (cancel x) = cancel-forward l n ns e (rw e at o) c x
   call-forward (activate again k x y z) = timed-forward l n ns e (rw e at o) c no-zero again k x y z
-  call-forward (ifEmpty x) = set-later (isHead c x) l refl
+  call-forward (ifEmpty x) = set-later (isHead c x) false l refl
   call-forward finish = finish-forward l n ns e (rw e at o) c

@@ -7,6 +7,7 @@ use Rattle.ring_laws.specs.Lists.{In}
 use Rattle.ring_laws.specs.Distinct.{Dist, joined}
 use Rattle.model.specs.Counts.{Allowed, total, main}
 use Rattle.model_laws.specs.Notices.{whos, InOrder, Within}
+use Rattle.model_laws.specs.Tables.{Limited}
 use Rattle.model_laws.specs.Now.{time}
 use Rattle.accum_laws.specs.Runs.{Each}
 use Rattle.sheet.specs.declared.header.Header.{Header}
@@ -29,6 +30,8 @@ pub record Invariant (s : Sheet) (m : Machine) : Type 0 where
   -- "No link stands twice in the sets", all sets taken together; only links stand there
   pub links-once : Dist (joined (m .lists .sets))
   pub only-links : (x : ℕ) → In x (joined (m .lists .sets)) → (s .counts .heads < x) × (x ≤ total (s .counts))
+  -- "Make 512 the most members a set may have, so that displays can be laid out for it"
+  pub limited : Limited (m .lists .sets)
   -- "no process has two notices"; only processes have one
   pub notice-each : Dist (whos (m .lists .notices))
   pub only-processes : (x : ℕ) → In x (whos (m .lists .notices)) → (s .counts .heads < x) × (x ≤ s .counts .heads + s .counts .processes)

@@ -57,6 +57,10 @@ linkageAt c p = c .heads + p
 abbrev pub limit : ℕ
 limit = 1099511627775
 
+-- "Make 512 the most members a set may have"
+abbrev pub mostMembers : ℕ
+mostMembers = 512
+
 -- ---- what the limits say
 
 pub record Allowed (c : Counts) : Type 0 where

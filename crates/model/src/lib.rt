@@ -27,6 +27,8 @@ pub enum Refusal {
     Accumulator,
     // A sheet that breaks its layout.
     Layout,
+    // The call would leave a set with more members than a set may have.
+    Full,
 }
 
 impl Refusal {
@@ -43,6 +45,7 @@ impl Refusal {
             Refusal::Idle => 6,
             Refusal::Accumulator => 7,
             Refusal::Layout => 8,
+            Refusal::Full => 10,
         }
     }
 }
@@ -67,6 +70,9 @@ impl Counts {
     pub const MAX_PROCESSES: u32 = 1024;
 
     pub const MAX_PLAINS: u32 = 3008;
+
+    // The most members a set may have.
+    pub const MAX_MEMBERS: u32 = 512;
 
     // Counts within their limits, or the refusal.
     pub fn new(heads: u32, processes: u32, plains: u32) -> CountsMade

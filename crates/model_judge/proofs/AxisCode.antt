@@ -93,7 +93,7 @@ module _ (p : ℕ) (axis times marks : List ℕ) where
   unfolding axisFine
   axis-mark e n = rw (eq-eqb (getD times 0 0) 0 e, ne-eqb (getD marks 0 0) 0 n)
 
-  module _ (ok : Bool) (e : getD times 0 0 ≡ 0) (f : getD marks 0 0 ≡ 0) (g : ok ≡ ringsFine (sucs (p + 2) axis) (pres (p + 2) axis) 1 (p + 1) 1 (p + 1)) where
+  module _ (ok : Bool) (e : getD times 0 0 ≡ 0) (f : getD marks 0 0 ≡ 0) (g : ok ≡ ringsFine (sucs (p + 2) axis) (pres (p + 2) axis) 1 (p + 1) (p + 1) 1 (p + 1)) where
     pub axis-rings : not ok ≡ true → false ≡ axisFine p axis times marks
     unfolding axisFine
     axis-rings n = rw (eq-eqb (getD times 0 0) 0 e, eq-eqb (getD marks 0 0) 0 f, sym g ∙ not-true ok n)

@@ -3,11 +3,14 @@ use Prim.Native.Nat.{ℕ, _+_, _*_}
 use mathlib.Core.Path.{_≡_, sym, ap, _∙_}
 use mathlib.Core.Logic.{_≢_}
 use mathlib.Core.Bool.{Bool, true, false, not}
+use mathlib.Core.List.{List}
 use lib.Dec.{eqb}
 use lib.ListN.{length}
 use borrow.Author.Tests.{eq-eqb, ne-eqb, not-true, not-false}
+use Rattle.ring_laws.specs.Stores.{sucs, pres}
+use Rattle.ring_laws.specs.Judge.{ringsFine}
 use Rattle.model.specs.declared.Counts.{Counts}
-use Rattle.model.specs.Counts.{total, and-off, and-on}
+use Rattle.model.specs.Counts.{total, mostMembers, and-off, and-on}
 use Rattle.model_laws.specs.Tables.{Tables}
 use Rattle.model_laws.specs.Judge.{linksFine, axisFine, tablesFine, lengthsFine}
 
@@ -38,6 +41,12 @@ module _ (c : Counts) (t : Tables) (n : ℕ) (e : n ≡ total c) where
       unfolding lengthsFine
       lengths-marks g =
           and-on _ _ _ first (and-on _ _ _ second (and-on _ _ _ (eq-eqb _ _ (rw f at g)) (ap (λ (k : ℕ). eqb (length (t .marks)) (k + 1)) f)))
+
+-- ---- links
+
+pub links-most : (m H most : ℕ) (t : List ℕ) (r : Bool) → most ≡ mostMembers
+    → r ≡ ringsFine (sucs m t) (pres m t) (H + 1) m most H 1 → r ≡ linksFine m H t
+links-most m H most t r e q = q ∙ ap (λ (k : ℕ). ringsFine (sucs m t) (pres m t) (H + 1) m k H 1) e
 
 -- ---- tables
 

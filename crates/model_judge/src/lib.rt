@@ -14,12 +14,13 @@ ghost use Rattle.model_laws.specs.Tables.{Sized, modelOf};
 ghost use Rattle.model_laws.specs.Judge.{linksFine, timeFine, markFine, placesFine, axisFine, tablesFine, lengthsFine, judged};
 ghost use Rattle.model_laws.specs.Tests.{Three};
 
-// The table of links: the sets of the heads 1 .. heads.
+// The table of links: the sets of the heads 1 .. heads, none of more than `MAX_MEMBERS` members.
 fn links_fine(t: &[u32], m: usize, heads: usize) -> bool
     requires { ⌜ (length (now t) ≡ 2 * m) × (heads < m) ⌝ }
     ensures { λ r. ⌜ r ≡ linksFine m heads (now (t .entry)) ⌝ }
 {
-    rings_fine(t, m, heads + 1, m, heads, 1)
+    let most = wide(Counts::MAX_MEMBERS);
+    rings_fine(t, m, heads + 1, m, most, heads, 1)
 }
 
 // The time and the notice of place y of the axis.
@@ -92,7 +93,7 @@ fn axis_fine(axis: &[u32], times: &[u64], marks: &[u8], p: usize) -> bool
     if marks[0] != 0 {
         return false;
     }
-    let ok = rings_fine(axis, p + 2, 1, p + 1, 1, p + 1);
+    let ok = rings_fine(axis, p + 2, 1, p + 1, p + 1, 1, p + 1);
     if !ok {
         return false;
     }

@@ -12,12 +12,13 @@ use borrow.Author.Tests.{eq-eqb, ne-eqb, eqb-true, eqb-false}
 use Rattle.model.specs.Counts.{limit, both}
 use Rattle.ring_laws.specs.Lists.{In, decide, clash}
 use Rattle.ring_laws.specs.Chain.{Chain, next-in}
-use Rattle.ring_laws.specs.Rings.{Head, Rings, apart, rings-cong, free}
+use Rattle.ring_laws.specs.Distinct.{pigeon}
+use Rattle.ring_laws.specs.Rings.{Head, Rings, apart, rings-cong, rings-dist, free}
 use Rattle.ring_laws.specs.Stores.{sucs, pres}
 use Rattle.model_laws.specs.Tables.{axisHead, SpellsAxis}
 use Rattle.ring_laws.specs.Judge.{idle, ringsFine}
 use Rattle.ring_laws.specs.Busy.{idle-not, zeros-idle}
-use Rattle.ring_laws.specs.Rows.{Layout}
+use Rattle.ring_laws.specs.Rows.{Layout, at-most-more}
 use Rattle.ring_laws.specs.Fine.{sound, complete}
 use Rattle.model_laws.specs.Judge.{placesFine, axisFine}
 use Rattle.model_laws.specs.Tests.{NeverFall, unless, time-idle, time-mean, mean-time, mark-none, mark-idle, mark-mean, places-mean}
@@ -59,7 +60,7 @@ module _ (p : ℕ) (axis times marks : List ℕ) where
   record Tests : Type 0 where
     pub time0 : getD times 0 0 ≡ 0
     pub mark0 : getD marks 0 0 ≡ 0
-    pub rings : ringsFine S P 1 (p + 1) 1 (p + 1) ≡ true
+    pub rings : ringsFine S P 1 (p + 1) (p + 1) 1 (p + 1) ≡ true
     pub some : S (p + 1) ≢ p + 1
     pub places : placesFine S P (p + 1) times marks p ≡ true
 
@@ -71,7 +72,7 @@ module _ (p : ℕ) (axis times marks : List ℕ) where
   tests-of e =
       let a = both (eqb (getD times 0 0) 0) _ e in
       let b = both (eqb (getD marks 0 0) 0) _ (a .1) in
-      let c = both (ringsFine S P 1 (p + 1) 1 (p + 1)) _ (b .1) in
+      let c = both (ringsFine S P 1 (p + 1) (p + 1) 1 (p + 1)) _ (b .1) in
       let d = unless (eqb (getD axis (p + 1) 0) (p + 1)) _ (c .1) in
       record {
         time0 = eqb-true (getD times 0 0) 0 (a .0);
@@ -104,6 +105,12 @@ module _ (p : ℕ) (axis times marks : List ℕ) where
 
     event-place : (y : ℕ) → In y events → (0 < y) × (y ≤ p)
     event-place y k = let b = axis-layout p .link-in y (r .only (p + 1) y own k) in (b .0, omega (arith, b .1))
+
+    -- the events are distinct places up to p
+    few : length events ≤ p + 1
+    few =
+        pigeon (p + 1) events (rings-dist (p + 2) (axisHead (p + 2)) (λ h. events) S P r (p + 1) own .1)
+        (λ y k. omega (arith, event-place y k))
 
     -- an event, or idle
     which : {A : Type 0} (y : ℕ) → 0 < y → y ≤ p → (In y events → A) → (idle S P y ≡ true → (In y events → ⊥) → A) → A
@@ -153,7 +160,7 @@ module _ (p : ℕ) (axis times marks : List ℕ) where
       → (events : List ℕ) × AxisSpelled p events axis times marks
   axis-sound two e =
       let t : Tests = tests-of e in
-      let f = sound (p + 2) (axisHead (p + 2)) 1 (p + 1) 1 (p + 1) (axis-layout p) S P (t .rings) in
+      let f = sound (p + 2) (axisHead (p + 2)) 1 (p + 1) 1 (p + 1) (axis-layout p) S P (p + 1) (t .rings) in
       let events = getD (f .sets) 0 [] in (
         events,
         spelled events
@@ -173,13 +180,14 @@ module _ (p : ℕ) (axis times marks : List ℕ) where
         time0 = s .idle-times 0 (omega arith) (λ k. omega (arith, event-place events r 0 k));
         mark0 = s .zero-mark;
         rings =
-            complete (p + 2) (axisHead (p + 2)) 1 (p + 1) 1 (p + 1) (axis-layout p) S P (events ∷ []) refl
+            complete (p + 2) (axisHead (p + 2)) 1 (p + 1) 1 (p + 1) (axis-layout p) S P (p + 1) (events ∷ []) refl
             (rings-cong (p + 2) (axisHead (p + 2)) (λ h. events) (λ h. getD (events ∷ []) (h - (p + 1)) []) S P
             (λ h a.
             let b = axis-layout p .head-in h a in
             let q : 0 ≡ h - (p + 1) = omega (arith, b) in
             ap (λ (j : ℕ). getD (events ∷ []) j []) q)
-            r);
+            r)
+            (at-most-more (p + 1) events [] (few events r) (λ i. omega arith));
         some = go events (s .some) (r .ring (p + 1) own) (not-own events r);
         places =
             mean-places S P (p + 1) times marks p

@@ -1,9 +1,9 @@
 -- The judge of tables answers yes exactly where they are well formed.
-use Prim.Native.Nat.{ℕ, _+_, _*_, _-_, _<_, _≤_}
+use Prim.Native.Nat.{ℕ, suc, _+_, _*_, _-_, _<_, _≤_}
 use mathlib.Core.Path.{_≡_, sym, ap, _∙_, subst}
 use mathlib.Core.Logic.{_⊎_, inl, inr, ⊎-elim}
 use mathlib.Core.Bool.{true}
-use mathlib.Core.List.{List}
+use mathlib.Core.List.{List, []}
 use native.Mathlib.Omega.{arith}
 use lib.ListN.{length, getD}
 use borrow.Author.Tests.{leb-true, leb-false, le-leb, lt-leb}
@@ -14,10 +14,10 @@ use Rattle.ring_laws.specs.Spell.{spells-dist}
 use Rattle.ring_laws.specs.Rows.{Layout}
 use Rattle.ring_laws.specs.Fine.{sound, complete}
 use Rattle.model.specs.declared.Counts.{Counts}
-use Rattle.model.specs.Counts.{total, both, and-on}
+use Rattle.model.specs.Counts.{total, mostMembers, both, and-on}
 use Rattle.model_laws.specs.Notices.{whos, places, dueOf}
 use Rattle.ring_laws.specs.Tabulate.{has, bit, table-at, at-table, has-in}
-use Rattle.model_laws.specs.Tables.{Tables, Lengths, Lists, setHead, axisHead, SpellsSets, Spells, WellFormed}
+use Rattle.model_laws.specs.Tables.{Tables, Lengths, Lists, setHead, axisHead, SpellsSets, Limited, Spells, WellFormed}
 use Rattle.model_laws.specs.Judge.{linksFine, axisFine, tablesFine}
 use Rattle.model_laws.specs.AxisJudged.{AxisSpelled, axis-sound, axis-complete, axis-head, axis-event}
 use Rattle.model_laws.specs.Reading.{Timed, noticesOf, places-of, length-of, due-in, due-out, order-of, within-of, whos-of, endedOf}
@@ -38,14 +38,15 @@ sets-layout m H l =
     }
 
 pub links-sound : (m H : ℕ) (t : List ℕ) → H < m → length t ≡ 2 * m → linksFine m H t ≡ true
-    → (sets : List (List ℕ)) × SpellsSets m H sets t
+    → (sets : List (List ℕ)) × SpellsSets m H sets t × Limited sets
 links-sound m H t l two e =
-    let f = sound m (setHead H) H 1 (H + 1) m (sets-layout m H l) (sucs m t) (pres m t) e in
-    (f .sets, record { all = f .all; spelled = record { two = two; rings = f .rings } })
+    let f = sound m (setHead H) H 1 (H + 1) m (sets-layout m H l) (sucs m t) (pres m t) mostMembers e in
+    (f .sets, record { all = f .all; spelled = record { two = two; rings = f .rings } }, λ h. f .limited (h - 1))
 
-pub links-complete : (m H : ℕ) (t : List ℕ) (sets : List (List ℕ)) → H < m → SpellsSets m H sets t → linksFine m H t ≡ true
-links-complete m H t sets l s =
-    complete m (setHead H) H 1 (H + 1) m (sets-layout m H l) (sucs m t) (pres m t) sets (s .all) (s .spelled .rings)
+pub links-complete : (m H : ℕ) (t : List ℕ) (sets : List (List ℕ)) → H < m → SpellsSets m H sets t → Limited sets → linksFine m H t ≡ true
+links-complete m H t sets l s few =
+    complete m (setHead H) H 1 (H + 1) m (sets-layout m H l) (sucs m t) (pres m t) mostMembers sets (s .all) (s .spelled .rings)
+    (λ i. let e : suc i - 1 ≡ i = omega arith in subst (λ (j : ℕ). length (getD sets j []) ≤ mostMembers) e (few (suc i)))
 
 -- ---- from places with notices, and marks, to the lists
 
@@ -58,11 +59,12 @@ module _ (c : Counts) (t : Tables) (len : Lengths c t) (sets : List (List ℕ)) 
         terminated = endedOf (c .heads) (t .marks) (c .processes);
       }
 
-  events-spelled : SpellsSets (total c + 1) (c .heads) sets (t .links) → AxisSpelled (c .processes) events (t .axis) (t .times) (t .marks)
-      → Spells c listsOf t
-  events-spelled links s =
+  events-spelled : SpellsSets (total c + 1) (c .heads) sets (t .links) → Limited sets
+      → AxisSpelled (c .processes) events (t .axis) (t .times) (t .marks) → Spells c listsOf t
+  events-spelled links few s =
       record {
         links = links;
+        limited = few;
         axis = rw (places-of c (t .times) events) (s .ring);
         times =
             at-table (λ p. dueOf (c .heads + p) (noticesOf (c .heads) (t .times) events)) (c .processes) (t .times) (len .times-is)
@@ -154,10 +156,10 @@ tables-sound c t len e =
     let b = both (linksFine (total c + 1) (c .heads) (t .links)) (axisFine (c .processes) (t .axis) (t .times) (t .marks)) e in
     let l = links-sound (total c + 1) (c .heads) (t .links) (omega arith) (len .links-is) (b .0) in
     let a = axis-sound (c .processes) (t .axis) (t .times) (t .marks) (len .axis-is) (b .1) in
-    (listsOf c t len (l .0) (a .0), events-spelled c t len (l .0) (a .0) (l .1) (a .1))
+    (listsOf c t len (l .0) (a .0), events-spelled c t len (l .0) (a .0) (l .1) (l .2) (a .1))
 
 pub tables-complete : (c : Counts) (t : Tables) → WellFormed c t → tablesFine c t ≡ true
 unfolding tablesFine
 tables-complete c t (l, s) =
-    sym (and-on _ _ _ (links-complete (total c + 1) (c .heads) (t .links) (l .sets) (omega arith) (s .links))
+    sym (and-on _ _ _ (links-complete (total c + 1) (c .heads) (t .links) (l .sets) (omega arith) (s .links) (s .limited))
     (sym (axis-complete (c .processes) (t .axis) (t .times) (t .marks) (places c (l .notices)) (axis-spelled c l t s))))

@@ -177,6 +177,7 @@ fresh-spells c a =
     let one : main c - c .heads ≡ 1 = omega arith in
     record {
       links = links-fresh (total c + 1) (c .heads) (omega arith);
+      limited = λ h. omega (arith, ap length (none-of (c .heads) (h - 1)));
       axis = subst (λ (j : ℕ). SpellsAxis (c .processes + 2) (j ∷ []) (freshAxis (c .processes))) (sym one)
           (axis-fresh (c .processes) (a .some));
       times = all-zero (λ p. dueOf (c .heads + p) (record { who = main c; due = 0 } ∷ [])) (c .processes) (λ y. due y);

@@ -11,12 +11,12 @@ use Rattle.model.specs.declared.Counts.{Counts}
 use Rattle.model.specs.declared.Refusal.the-variants.{Size, Malformed}
 use Rattle.model.specs.declared.verdict.Verdict.{Verdict}
 use Rattle.model.specs.declared.verdict.Verdict.the-variants.{Fine, Refused}
-use Rattle.model.specs.Counts.{inLimits, total, limit}
+use Rattle.model.specs.Counts.{inLimits, total, limit, mostMembers}
 use Rattle.model_laws.specs.Tables.{Tables}
 
--- the links' table: the rings of the heads 1 .. H over the links H + 1 .. N, with m = N + 1
+-- the links' table: the rings of the heads 1 .. H over the links H + 1 .. N, with m = N + 1; "A longer ring counts as badly formed tables"
 abbrev pub linksFine : ℕ → ℕ → List ℕ → Bool
-linksFine m H t = ringsFine (sucs m t) (pres m t) (H + 1) m H 1
+linksFine m H t = ringsFine (sucs m t) (pres m t) (H + 1) m mostMembers H 1
 
 -- an idle place has time 0; another has a time within the limit, and not past that of the next notice; h is the axis's head
 unfoldable pub timeFine : (ℕ → ℕ) → (ℕ → ℕ) → ℕ → List ℕ → ℕ → Bool
@@ -37,12 +37,12 @@ placesFine S P h times marks zero = true
 placesFine S P h times marks (suc i) =
     timeFine S P h times (suc i) && (markFine S P marks (suc i) && placesFine S P h times marks i)
 
--- place 0 holds 0, the axis is one ring over the places 1 .. p with its head at p + 1, and holds a notice
+-- place 0 holds 0, the axis is one ring over the places 1 .. p with its head at p + 1, and holds a notice; p + 1 limits nothing
 unfoldable pub axisFine : ℕ → List ℕ → List ℕ → List ℕ → Bool
 axisFine p axis times marks =
     eqb (getD times 0 0) 0
     && (eqb (getD marks 0 0) 0
-    && (ringsFine (sucs (p + 2) axis) (pres (p + 2) axis) 1 (p + 1) 1 (p + 1)
+    && (ringsFine (sucs (p + 2) axis) (pres (p + 2) axis) 1 (p + 1) (p + 1) 1 (p + 1)
     && (if eqb (getD axis (p + 1) 0) (p + 1) then false else placesFine (sucs (p + 2) axis) (pres (p + 2) axis) (p + 1) times marks p)))
 
 unfoldable pub tablesFine : Counts → Tables → Bool

@@ -24,7 +24,7 @@ need true r = r
 need false r = refused Operand
 
 -- what is done had its operands of the right kinds
-pub need-done : (b : Bool) (k l : Lists) → need b (done k) ≡ done l → b ≡ true
+pub need-done : (b : Bool) (k : Result Lists) (l : Lists) → need b k ≡ done l → b ≡ true
 need-done true k l e = refl
 need-done false k l e = cc
 

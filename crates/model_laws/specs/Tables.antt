@@ -9,7 +9,7 @@ use lib.ListN.{length, getD}
 use Rattle.ring_laws.specs.Lists.{In}
 use Rattle.ring_laws.specs.Spell as ring
 use Rattle.model.specs.declared.Counts.{Counts}
-use Rattle.model.specs.Counts.{Allowed, total, main}
+use Rattle.model.specs.Counts.{Allowed, total, main, mostMembers}
 use Rattle.model_laws.specs.Notices.{Notice, whos, places, dueOf, InOrder, Within}
 use Rattle.ring_laws.specs.Tabulate.{listed, has, bit}
 
@@ -65,12 +65,18 @@ pub record SpellsSets (m H : ℕ) (sets : List (List ℕ)) (t : List ℕ) : Type
   pub all : length sets ≡ H
   pub spelled : ring.Spells m (setHead H) (membersOf sets) t
 
+-- "Make 512 the most members a set may have": no head has more
+abbrev pub Limited : List (List ℕ) → Type 0
+Limited sets = (h : ℕ) → length (membersOf sets h) ≤ mostMembers
+
 -- "same plan: the p-th process at p, the axis's own head at P + 1": with m = P + 2, the axis spells these places
 abbrev pub SpellsAxis : ℕ → List ℕ → List ℕ → Type 0
 SpellsAxis m events t = ring.Spells m (axisHead m) (λ h. events) t
 
 pub record Spells (c : Counts) (l : Lists) (t : Tables) : Type 0 where
   pub links : SpellsSets (total c + 1) (c .heads) (l .sets) (t .links)
+  -- "A longer ring counts as badly formed tables"
+  pub limited : Limited (l .sets)
   pub axis : SpellsAxis (c .processes + 2) (places c (l .notices)) (t .axis)
   -- place 0 holds 0, and "an idle process (no notice) has zeros in axis and times"
   pub times : t .times ≡ 0 ∷ listed (λ p. dueOf (c .heads + p) (l .notices)) 1 (c .processes)

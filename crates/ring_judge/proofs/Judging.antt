@@ -14,7 +14,7 @@ use Rattle.ring_laws.specs.Stores.{sucs, pres, suc-at}
 use Rattle.ring_laws.specs.Judge.{Space, WalkStep, Bounded, allowed, step, walk, closed, idle, busy, ringsFine}
 use Rattle.ring_laws.specs.RingWalk.{allowed-mean, step-not, step-one-way, step-is, walk-broken, walk-back, walk-short, walk-on}
 use Rattle.ring_laws.specs.Busy.{idle-not, idle-last, busy-none, busy-idle, busy-more}
-use Rattle.ring_laws.specs.Rows.{closed-none, closed-broken, closed-on}
+use Rattle.ring_laws.specs.Rows.{closed-none, closed-broken, closed-long, closed-on}
 use Rattle.ring_laws.specs.Fine.{fine-not, fine-is}
 
 module _ (m : ℕ) (t : List ℕ) where
@@ -101,43 +101,54 @@ module _ (m : ℕ) (t : List ℕ) (lo hi h left : ℕ) where
 
 -- ---- the heads one by one
 
-pub record Heads (m : ℕ) (t : List ℕ) (lo hi n g links left h i : ℕ) : Type 0 where
+pub record Heads (m : ℕ) (t : List ℕ) (lo hi most n g links left h i : ℕ) : Type 0 where
   pub within : h + i ≤ m
   pub few : left < m
-  pub rest : closed (sucs m t) (pres m t) lo hi i h left ≡ closed (sucs m t) (pres m t) lo hi n g links
+  pub rest : closed (sucs m t) (pres m t) lo hi most i h left ≡ closed (sucs m t) (pres m t) lo hi most n g links
 
-module _ (m : ℕ) (t : List ℕ) (lo hi n g links : ℕ) where
-  pub heads-start : g + n ≤ m → links < m → Heads m t lo hi n g links links g n
+module _ (m : ℕ) (t : List ℕ) (lo hi most n g links : ℕ) where
+  pub heads-start : g + n ≤ m → links < m → Heads m t lo hi most n g links links g n
   heads-start l k = record { within = l; few = k; rest = refl }
 
-  module _ (left h i w : ℕ) (v : Heads m t lo hi n g links left h i) where
+  module _ (left h i w : ℕ) (v : Heads m t lo hi most n g links left h i) where
     pub heads-broken : 0 < i → Bounded (left + 1) (walk (sucs m t) (pres m t) lo hi h left h) w → w ≡ 0
-        → false ≡ closed (sucs m t) (pres m t) lo hi n g links
+        → false ≡ closed (sucs m t) (pres m t) lo hi most n g links
     heads-broken p b z =
         let e : suc (i - 1) ≡ i = omega arith in
-        sym (closed-broken (sucs m t) (pres m t) lo hi (i - 1) h left (sym (b .is) ∙ z))
-        ∙ ap (λ (j : ℕ). closed (sucs m t) (pres m t) lo hi j h left) e
+        sym (closed-broken (sucs m t) (pres m t) lo hi most (i - 1) h left (sym (b .is) ∙ z))
+        ∙ ap (λ (j : ℕ). closed (sucs m t) (pres m t) lo hi most j h left) e
         ∙ v .rest
 
-    pub heads-turn : 0 < i → Bounded (left + 1) (walk (sucs m t) (pres m t) lo hi h left h) w → w ≢ 0
-        → Heads m t lo hi n g links (w - 1) (h + 1) (i - 1)
-    heads-turn p b z =
+    pub heads-long : 0 < i → Bounded (left + 1) (walk (sucs m t) (pres m t) lo hi h left h) w → w ≢ 0 → most < left - (w - 1)
+        → false ≡ closed (sucs m t) (pres m t) lo hi most n g links
+    heads-long p b z l =
+        let e : suc (i - 1) ≡ i = omega arith in
+        let f : w ≡ suc (w - 1) = omega arith in
+        sym (closed-long (sucs m t) (pres m t) lo hi most (i - 1) h left (w - 1) (sym (b .is) ∙ f) l)
+        ∙ ap (λ (j : ℕ). closed (sucs m t) (pres m t) lo hi most j h left) e
+        ∙ v .rest
+
+    pub heads-turn : 0 < i → Bounded (left + 1) (walk (sucs m t) (pres m t) lo hi h left h) w → w ≢ 0 → left - (w - 1) ≤ most
+        → Heads m t lo hi most n g links (w - 1) (h + 1) (i - 1)
+    heads-turn p b z l =
         let e : suc (i - 1) ≡ i = omega arith in
         let f : w ≡ suc (w - 1) = omega arith in
         record {
           within = omega (arith, v .within);
           few = omega (arith, v .few, b .few);
           rest =
-              ap (λ (j : ℕ). closed (sucs m t) (pres m t) lo hi (i - 1) j (w - 1)) (add-one h)
-              ∙ sym (closed-on (sucs m t) (pres m t) lo hi (i - 1) h left (w - 1) (sym (b .is) ∙ f))
-              ∙ ap (λ (j : ℕ). closed (sucs m t) (pres m t) lo hi j h left) e
+              ap (λ (j : ℕ). closed (sucs m t) (pres m t) lo hi most (i - 1) j (w - 1)) (add-one h)
+              ∙ sym (closed-on (sucs m t) (pres m t) lo hi most (i - 1) h left (w - 1) (sym (b .is) ∙ f) l)
+              ∙ ap (λ (j : ℕ). closed (sucs m t) (pres m t) lo hi most j h left) e
               ∙ v .rest;
         }
 
-    pub heads-out : i ≤ 0 → eqb left 0 ≡ closed (sucs m t) (pres m t) lo hi n g links
+    pub heads-out : i ≤ 0 → eqb left 0 ≡ closed (sucs m t) (pres m t) lo hi most n g links
     heads-out p =
         let e : 0 ≡ i = omega arith in
-        sym (closed-none (sucs m t) (pres m t) lo hi h left) ∙ ap (λ (j : ℕ). closed (sucs m t) (pres m t) lo hi j h left) e ∙ v .rest
+        sym (closed-none (sucs m t) (pres m t) lo hi most h left)
+        ∙ ap (λ (j : ℕ). closed (sucs m t) (pres m t) lo hi most j h left) e
+        ∙ v .rest
 
 -- ---- those that are not idle
 
@@ -171,9 +182,10 @@ weight-one b zeros e f = rw (← e, f) (record { is = refl; few = omega arith })
 
 -- ---- the whole
 
-module _ (S P : ℕ → ℕ) (lo hi n g : ℕ) (zeros : Bool) (e : zeros ≡ idle S P 0) where
-  pub not-fine : not zeros ≡ true → false ≡ ringsFine S P lo hi n g
-  not-fine f = sym (fine-not S P lo hi n g (sym e ∙ not-true zeros f))
+module _ (S P : ℕ → ℕ) (lo hi most n g : ℕ) (zeros : Bool) (e : zeros ≡ idle S P 0) where
+  pub not-fine : not zeros ≡ true → false ≡ ringsFine S P lo hi most n g
+  not-fine f = sym (fine-not S P lo hi most n g (sym e ∙ not-true zeros f))
 
-  pub is-fine : (k : ℕ) (r : Bool) → not zeros ≡ false → Bounded (hi - lo) (length (busy S P lo (hi - lo))) k → r ≡ closed S P lo hi n g k → r ≡ ringsFine S P lo hi n g
-  is-fine k r f b q = q ∙ ap (closed S P lo hi n g) (b .is) ∙ sym (fine-is S P lo hi n g (sym e ∙ not-false zeros f))
+  pub is-fine : (k : ℕ) (r : Bool) → not zeros ≡ false → Bounded (hi - lo) (length (busy S P lo (hi - lo))) k
+      → r ≡ closed S P lo hi most n g k → r ≡ ringsFine S P lo hi most n g
+  is-fine k r f b q = q ∙ ap (closed S P lo hi most n g) (b .is) ∙ sym (fine-is S P lo hi most n g (sym e ∙ not-false zeros f))

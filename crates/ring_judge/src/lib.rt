@@ -63,11 +63,20 @@ fn round(t: &[u32], m: usize, lo: usize, hi: usize, h: usize, left: usize) -> us
     }
 }
 
-// Are the rings of the n heads from g closed, with `links` links together?
-fn all_closed(t: &[u32], m: usize, lo: usize, hi: usize, n: usize, g: usize, links: usize) -> bool
+// Are the rings of the n heads from g closed, with `links` links together, and none of them with more than `most`?
+fn all_closed(
+    t: &[u32],
+    m: usize,
+    lo: usize,
+    hi: usize,
+    most: usize,
+    n: usize,
+    g: usize,
+    links: usize,
+) -> bool
     requires { ⌜ Space m hi (now t) ⌝ }
     requires { ⌜ (g + n ≤ m) × (links < m) ⌝ }
-    ensures { λ r. ⌜ r ≡ closed (sucs m (now (t .entry))) (pres m (now (t .entry))) lo hi n g links ⌝ }
+    ensures { λ r. ⌜ r ≡ closed (sucs m (now (t .entry))) (pres m (now (t .entry))) lo hi most n g links ⌝ }
 {
     let mut left = links;
     let mut h = g;
@@ -77,7 +86,11 @@ fn all_closed(t: &[u32], m: usize, lo: usize, hi: usize, n: usize, g: usize, lin
         if w == 0 {
             return false;
         }
-        left = w - 1;
+        let rest = w - 1;
+        if most < left - rest {
+            return false;
+        }
+        left = rest;
         h += 1;
         i -= 1;
     }
@@ -123,15 +136,23 @@ fn count_busy(t: &[u32], m: usize, lo: usize, hi: usize) -> usize
     n
 }
 
-// The rings of the n heads from g, over the links lo .. hi - 1.
-pub fn rings_fine(t: &[u32], m: usize, lo: usize, hi: usize, n: usize, g: usize) -> bool
+// The rings of the n heads from g, over the links lo .. hi - 1, of which one ring may have `most`.
+pub fn rings_fine(
+    t: &[u32],
+    m: usize,
+    lo: usize,
+    hi: usize,
+    most: usize,
+    n: usize,
+    g: usize,
+) -> bool
     requires { ⌜ Plan m lo hi n g (now t) ⌝ }
-    ensures { λ r. ⌜ r ≡ ringsFine (sucs m (now (t .entry))) (pres m (now (t .entry))) lo hi n g ⌝ }
+    ensures { λ r. ⌜ r ≡ ringsFine (sucs m (now (t .entry))) (pres m (now (t .entry))) lo hi most n g ⌝ }
 {
     let zeros = is_idle(t, m, 0);
     if !zeros {
         return false;
     }
     let k = count_busy(t, m, lo, hi);
-    all_closed(t, m, lo, hi, n, g, k)
+    all_closed(t, m, lo, hi, most, n, g, k)
 }

@@ -45,14 +45,14 @@ pigeon (suc n) l d f =
       pigeon n (without n l) (dist-without n l d) (λ y i. omega (arith, f y (in-without y n l i), without-gone n l y i)),
     )
 
-without-le : (x : ℕ) (l : List ℕ) → length (without x l) ≤ length l
+pub without-le : (x : ℕ) (l : List ℕ) → length (without x l) ≤ length l
 without-le x [] = omega arith
 without-le x (z ∷ l) =
     decide z x
     (λ e. rw (eq-eqb z x e) (omega (arith, without-le x l)))
     (λ n. rw (ne-eqb z x n) (omega (arith, without-le x l)))
 
-without-lt : (x : ℕ) (l : List ℕ) → In x l → length (without x l) < length l
+pub without-lt : (x : ℕ) (l : List ℕ) → In x l → length (without x l) < length l
 without-lt x [] k = absurd k
 without-lt x (z ∷ l) (inl e) = rw (eq-eqb z x (sym e)) (omega (arith, without-le x l))
 without-lt x (z ∷ l) (inr k) =

@@ -11,23 +11,24 @@ use Rattle.ring_laws.specs.Rings.{Head, Link, Rings}
 use Rattle.ring_laws.specs.Judge.{idle, busy, closed, ringsFine}
 use Rattle.ring_laws.specs.Distinct.{joined, fits, covers}
 use Rattle.ring_laws.specs.Busy.{idle-zeros, zeros-idle, busy-place, place-busy, busy-dist}
-use Rattle.ring_laws.specs.Rows.{Layout, Row, Rows, Closed, in-at, at-in, row-at, rows-of, rows-dist, rows-busy, closed-rows}
+use Rattle.ring_laws.specs.Rows.{Layout, Row, Rows, AtMost, Closed, in-at, at-in, row-at, rows-of, rows-dist, rows-busy, closed-rows}
 use Rattle.ring_laws.specs.Rows.{rows-closed}
 
-module _ (S P : ℕ → ℕ) (lo hi n g : ℕ) where
-  pub fine-not : idle S P 0 ≡ false → ringsFine S P lo hi n g ≡ false
+module _ (S P : ℕ → ℕ) (lo hi most n g : ℕ) where
+  pub fine-not : idle S P 0 ≡ false → ringsFine S P lo hi most n g ≡ false
   unfolding ringsFine
   fine-not e = rw e
 
-  pub fine-is : idle S P 0 ≡ true → ringsFine S P lo hi n g ≡ closed S P lo hi n g (length (busy S P lo (hi - lo)))
+  pub fine-is : idle S P 0 ≡ true → ringsFine S P lo hi most n g ≡ closed S P lo hi most n g (length (busy S P lo (hi - lo)))
   unfolding ringsFine
   fine-is e = rw e
 
--- lists that the rings spell
-pub record Found (m : ℕ) (isHead : ℕ → Bool) (S P : ℕ → ℕ) (n g : ℕ) : Type 0 where
+-- lists that the rings spell, none of more than most members
+pub record Found (m : ℕ) (isHead : ℕ → Bool) (S P : ℕ → ℕ) (most n g : ℕ) : Type 0 where
   pub sets : List (List ℕ)
   pub all : length sets ≡ n
   pub rings : Rings m isHead (λ h. getD sets (h - g) []) S P
+  pub limited : AtMost most sets
 
 module _ (m : ℕ) (isHead : ℕ → Bool) (n g lo hi : ℕ) (lay : Layout m isHead n g lo hi) (S P : ℕ → ℕ) where
   -- the members are the busy links
@@ -37,14 +38,15 @@ module _ (m : ℕ) (isHead : ℕ → Bool) (n g lo hi : ℕ) (lay : Layout m isH
   link-busy : (y : ℕ) → Link m isHead y → idle S P y ≡ false → In y (busy S P lo (hi - lo))
   link-busy y a e = let r = lay .link-in y a in place-busy S P lo (hi - lo) y (r .0) (omega (arith, r .1, lay .span)) e
 
-  pub sound : ringsFine S P lo hi n g ≡ true → Found m isHead S P n g
-  sound e =
+  pub sound : (most : ℕ) → ringsFine S P lo hi most n g ≡ true → Found m isHead S P most n g
+  sound most e =
       test (idle S P 0)
-      (λ z. found (idle-zeros S P 0 z) (closed-rows m isHead S P lo hi n g (length (busy S P lo (hi - lo))) (lay .in-head) (lay .in-link)
-      (sym (fine-is S P lo hi n g z) ∙ e)))
-      (λ z. clash (sym (fine-not S P lo hi n g z) ∙ e))
+      (λ z. found (idle-zeros S P 0 z)
+      (closed-rows m isHead S P lo hi most n g (length (busy S P lo (hi - lo))) (lay .in-head) (lay .in-link)
+      (sym (fine-is S P lo hi most n g z) ∙ e)))
+      (λ z. clash (sym (fine-not S P lo hi most n g z) ∙ e))
     where
-      found : (S 0 ≡ 0) × (P 0 ≡ 0) → Closed m isHead S P n g (length (busy S P lo (hi - lo))) → Found m isHead S P n g
+      found : (S 0 ≡ 0) × (P 0 ≡ 0) → Closed m isHead S P most n g (length (busy S P lo (hi - lo))) → Found m isHead S P most n g
       found z c =
           let at : (h : ℕ) → Head m isHead h → Row m isHead S P h (getD (c .lists) (h - g) []) =
           λ h a.
@@ -77,6 +79,7 @@ module _ (m : ℕ) (isHead : ℕ → Bool) (n g lo hi : ℕ) (lay : Layout m isH
                   zero-s = z .0;
                   zero-p = z .1;
                 };
+            limited = c .limited;
           }
 
   -- rings that lists spell, one row for each head
@@ -89,8 +92,9 @@ module _ (m : ℕ) (isHead : ℕ → Bool) (n g lo hi : ℕ) (lay : Layout m isH
       subst (λ (j : ℕ). Row m isHead S P (g + i) (getD sets j [])) q
       (record { head = a; chain = r .ring (g + i) a; links = λ y k. r .only (g + i) y a k }))
 
-  pub complete : (sets : List (List ℕ)) → length sets ≡ n → Rings m isHead (λ h. getD sets (h - g) []) S P → ringsFine S P lo hi n g ≡ true
-  complete sets all r =
+  pub complete : (most : ℕ) (sets : List (List ℕ)) → length sets ≡ n → Rings m isHead (λ h. getD sets (h - g) []) S P → AtMost most sets
+      → ringsFine S P lo hi most n g ≡ true
+  complete most sets all r limited =
       let rows : Rows m isHead S P g sets = rings-rows sets all r in
       let few : length (joined sets) ≤ length (busy S P lo (hi - lo)) =
       fits (joined sets) (busy S P lo (hi - lo)) (rows-dist m isHead S P g sets rows)
@@ -101,7 +105,7 @@ module _ (m : ℕ) (isHead : ℕ → Bool) (n g lo hi : ℕ) (lay : Layout m isH
       (λ w. in-at y (w .0 - g) sets (w .2))
       (λ z. clash (sym (busy-place S P lo (hi - lo) y k .2) ∙ zeros-idle S P y (z .0) (z .1)))
       (r .whole y (busy-link y k))) in
-      fine-is S P lo hi n g (zeros-idle S P 0 (r .zero-s) (r .zero-p))
-      ∙ ap (λ (j : ℕ). closed S P lo hi j g (length (busy S P lo (hi - lo)))) (sym all)
-      ∙ rows-closed m isHead S P lo hi sets g (length (busy S P lo (hi - lo))) (λ z. omega (arith, lay .low)) (lay .link-in) (lay .in-link)
-      rows (omega arith)
+      fine-is S P lo hi most n g (zeros-idle S P 0 (r .zero-s) (r .zero-p))
+      ∙ ap (λ (j : ℕ). closed S P lo hi most j g (length (busy S P lo (hi - lo)))) (sym all)
+      ∙ rows-closed m isHead S P lo hi most sets g (length (busy S P lo (hi - lo))) (λ z. omega (arith, lay .low)) (lay .link-in)
+      (lay .in-link) rows limited (omega arith)

@@ -23,11 +23,12 @@ walk S P lo hi h (suc k) a =
     if eqb (step S P lo hi h a) 0 then 0
     else (if eqb (step S P lo hi h a) h then suc (suc k) else walk S P lo hi h k (step S P lo hi h a))
 
--- the rings of the n heads from g have k links together
-unfoldable pub closed : (ℕ → ℕ) → (ℕ → ℕ) → ℕ → ℕ → ℕ → ℕ → ℕ → Bool
-closed S P lo hi zero g k = eqb k 0
-closed S P lo hi (suc n) g k =
-    if eqb (walk S P lo hi g k g) 0 then false else closed S P lo hi n (suc g) (walk S P lo hi g k g - 1)
+-- the rings of the n heads from g have k links together, and none of them more than most
+unfoldable pub closed : (ℕ → ℕ) → (ℕ → ℕ) → ℕ → ℕ → ℕ → ℕ → ℕ → ℕ → Bool
+closed S P lo hi most zero g k = eqb k 0
+closed S P lo hi most (suc n) g k =
+    if eqb (walk S P lo hi g k g) 0 then false
+    else (if ltb most (k - (walk S P lo hi g k g - 1)) then false else closed S P lo hi most n (suc g) (walk S P lo hi g k g - 1))
 
 -- two zeros
 unfoldable pub idle : (ℕ → ℕ) → (ℕ → ℕ) → ℕ → Bool
@@ -38,9 +39,9 @@ unfoldable pub busy : (ℕ → ℕ) → (ℕ → ℕ) → ℕ → ℕ → List �
 busy S P lo zero = []
 busy S P lo (suc n) = if idle S P (lo + n) then busy S P lo n else (lo + n) ∷ busy S P lo n
 
--- place 0 holds 0, the rings of the n heads from g are closed, and all that is not on them is idle
-unfoldable pub ringsFine : (ℕ → ℕ) → (ℕ → ℕ) → ℕ → ℕ → ℕ → ℕ → Bool
-ringsFine S P lo hi n g = idle S P 0 && closed S P lo hi n g (length (busy S P lo (hi - lo)))
+-- place 0 holds 0, the rings of the n heads from g are closed, each of at most `most` links, and all that is not on them is idle
+unfoldable pub ringsFine : (ℕ → ℕ) → (ℕ → ℕ) → ℕ → ℕ → ℕ → ℕ → ℕ → Bool
+ringsFine S P lo hi most n g = idle S P 0 && closed S P lo hi most n g (length (busy S P lo (hi - lo)))
 
 -- ---- what the code's functions ask and promise among themselves
 

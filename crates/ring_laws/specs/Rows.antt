@@ -8,8 +8,8 @@ use native.Mathlib.Omega.{arith}
 use native.Mathlib.Nat.{not-suc-le-zero}
 use lib.Dec.{eqb}
 use lib.ListN.{length, getD, length-append}
-use borrow.Author.Tests.{eq-eqb, ne-eqb, eqb-true}
-use Rattle.ring_laws.specs.Lists.{In, clash}
+use borrow.Author.Tests.{eq-eqb, ne-eqb, eqb-true, lt-ltb, le-ltb}
+use Rattle.ring_laws.specs.Lists.{In, below, clash}
 use Rattle.ring_laws.specs.Chain.{Chain, next-in}
 use Rattle.ring_laws.specs.Unique.{suffix, same-end, dist-chain}
 use Rattle.ring_laws.specs.Rings.{Head, Link, apart}
@@ -37,7 +37,15 @@ abbrev pub Rows : (m : ℕ) → (ℕ → Bool) → (S P : ℕ → ℕ) → ℕ �
 Rows m isHead S P g [] = Unit {0}
 Rows m isHead S P g (l ∷ ls) = Row m isHead S P g l × Rows m isHead S P (suc g) ls
 
+-- none of the lists has more than most members
+abbrev pub AtMost : ℕ → List (List ℕ) → Type 0
+AtMost most ls = (i : ℕ) → length (getD ls i []) ≤ most
+
 -- ---- by index
+
+pub at-most-more : (most : ℕ) (l : List ℕ) (ls : List (List ℕ)) → length l ≤ most → AtMost most ls → AtMost most (l ∷ ls)
+at-most-more most l ls a f zero = a
+at-most-more most l ls a f (suc i) = f i
 
 pub in-at : (y i : ℕ) (ls : List (List ℕ)) → In y (getD ls i []) → In y (joined ls)
 in-at y i [] k = absurd k
@@ -108,42 +116,59 @@ module _ (m : ℕ) (isHead : ℕ → Bool) (S P : ℕ → ℕ) where
 
 -- ---- the judge's walk over the heads
 
-module _ (S P : ℕ → ℕ) (lo hi : ℕ) where
-  pub closed-none : (g k : ℕ) → closed S P lo hi 0 g k ≡ eqb k 0
+module _ (S P : ℕ → ℕ) (lo hi most : ℕ) where
+  pub closed-none : (g k : ℕ) → closed S P lo hi most 0 g k ≡ eqb k 0
   unfolding closed
   closed-none g k = refl
 
-  pub closed-broken : (n g k : ℕ) → walk S P lo hi g k g ≡ 0 → closed S P lo hi (suc n) g k ≡ false
+  pub closed-broken : (n g k : ℕ) → walk S P lo hi g k g ≡ 0 → closed S P lo hi most (suc n) g k ≡ false
   unfolding closed
   closed-broken n g k e = rw (eq-eqb (walk S P lo hi g k g) 0 e)
 
-  pub closed-on : (n g k r : ℕ) → walk S P lo hi g k g ≡ suc r → closed S P lo hi (suc n) g k ≡ closed S P lo hi n (suc g) r
+  -- k - r links lie on the ring of g: more than may be
+  pub closed-long : (n g k r : ℕ) → walk S P lo hi g k g ≡ suc r → most < k - r → closed S P lo hi most (suc n) g k ≡ false
   unfolding closed
-  closed-on n g k r e =
+  closed-long n g k r e l =
       let z : suc r ≢ 0 = λ z. omega arith in
       let p : suc r - 1 ≡ r = omega arith in
-      rw (e, ne-eqb (suc r) 0 z) (ap (closed S P lo hi n (suc g)) p)
+      rw (e, ne-eqb (suc r) 0 z, p, lt-ltb most (k - r) l)
 
-pub record Closed (m : ℕ) (isHead : ℕ → Bool) (S P : ℕ → ℕ) (n g k : ℕ) : Type 0 where
+  pub closed-on : (n g k r : ℕ) → walk S P lo hi g k g ≡ suc r → k - r ≤ most
+      → closed S P lo hi most (suc n) g k ≡ closed S P lo hi most n (suc g) r
+  unfolding closed
+  closed-on n g k r e l =
+      let z : suc r ≢ 0 = λ z. omega arith in
+      let p : suc r - 1 ≡ r = omega arith in
+      rw (e, ne-eqb (suc r) 0 z, p, le-ltb most (k - r) l)
+
+pub record Closed (m : ℕ) (isHead : ℕ → Bool) (S P : ℕ → ℕ) (most n g k : ℕ) : Type 0 where
   pub lists : List (List ℕ)
   pub all : length lists ≡ n
   pub rows : Rows m isHead S P g lists
+  pub limited : AtMost most lists
   pub count : length (joined lists) ≡ k
 
-module _ (m : ℕ) (isHead : ℕ → Bool) (S P : ℕ → ℕ) (lo hi : ℕ) where
+module _ (m : ℕ) (isHead : ℕ → Bool) (S P : ℕ → ℕ) (lo hi most : ℕ) where
   pub closed-rows : (n g k : ℕ) → ((h : ℕ) → g ≤ h → h < g + n → Head m isHead h) → ((x : ℕ) → lo ≤ x → x < hi → Link m isHead x)
-      → closed S P lo hi n g k ≡ true → Closed m isHead S P n g k
+      → closed S P lo hi most n g k ≡ true → Closed m isHead S P most n g k
   closed-rows zero g k hs ls e =
-      record { lists = []; all = refl; rows = tt; count = sym (eqb-true k 0 (sym (closed-none S P lo hi g k) ∙ e)) }
+      record {
+        lists = [];
+        all = refl;
+        rows = tt;
+        limited = λ i. omega arith;
+        count = sym (eqb-true k 0 (sym (closed-none S P lo hi most g k) ∙ e));
+      }
   closed-rows (suc n) g k hs ls e =
       go (λ r c. closed-rows n (suc g) r (λ h a b. hs h (omega arith) (omega arith)) ls c) (walk S P lo hi g k g) refl
     where
-      go : ((r : ℕ) → closed S P lo hi n (suc g) r ≡ true → Closed m isHead S P n (suc g) r) → (w : ℕ) → walk S P lo hi g k g ≡ w
-          → Closed m isHead S P (suc n) g k
-      go rec zero q = clash (sym (closed-broken S P lo hi n g k q) ∙ e)
+      go : ((r : ℕ) → closed S P lo hi most n (suc g) r ≡ true → Closed m isHead S P most n (suc g) r) → (w : ℕ)
+          → walk S P lo hi g k g ≡ w → Closed m isHead S P most (suc n) g k
+      go rec zero q = clash (sym (closed-broken S P lo hi most n g k q) ∙ e)
       go rec (suc r) q =
           let p : WalkPassed S P lo hi g g k r = walk-chain S P lo hi g k g r q in
-          let c : Closed m isHead S P n (suc g) r = rec r (sym (closed-on S P lo hi n g k r q) ∙ e) in
+          let few : k - r ≤ most = below most (k - r) (λ l. clash (sym (closed-long S P lo hi most n g k r q l) ∙ e)) (λ l. l) in
+          let c : Closed m isHead S P most n (suc g) r = rec r (sym (closed-on S P lo hi most n g k r q few) ∙ e) in
           record {
             lists = p .members ∷ c .lists;
             all = ap suc (c .all);
@@ -155,15 +180,16 @@ module _ (m : ℕ) (isHead : ℕ → Bool) (S P : ℕ → ℕ) (lo hi : ℕ) whe
               },
               c .rows,
             );
+            limited = at-most-more most (p .members) (c .lists) (omega (arith, p .count, few)) (c .limited);
             count = omega (arith, length-append (p .members) (joined (c .lists)), c .count, p .count);
           }
 
   pub rows-closed : (ls : List (List ℕ)) (g k : ℕ) → lo ≢ 0 → ((x : ℕ) → Link m isHead x → (lo ≤ x) × (x < hi))
       → ((x : ℕ) → lo ≤ x → x < hi → Link m isHead x)
-      → Rows m isHead S P g ls → length (joined ls) ≡ k → closed S P lo hi (length ls) g k ≡ true
-  rows-closed [] g k l0 f b r e = closed-none S P lo hi g k ∙ eq-eqb k 0 (sym e)
-  rows-closed (l ∷ ls) g k l0 f b r e =
-      closed-on S P lo hi (length ls) g k (length (joined ls))
+      → Rows m isHead S P g ls → AtMost most ls → length (joined ls) ≡ k → closed S P lo hi most (length ls) g k ≡ true
+  rows-closed [] g k l0 f b r a e = closed-none S P lo hi most g k ∙ eq-eqb k 0 (sym e)
+  rows-closed (l ∷ ls) g k l0 f b r a e =
+      closed-on S P lo hi most (length ls) g k (length (joined ls))
       (chain-walk S P lo hi g k g (length (joined ls)) l
       (λ z. omega (arith, r .0 .head))
       l0
@@ -171,4 +197,5 @@ module _ (m : ℕ) (isHead : ℕ → Bool) (S P : ℕ → ℕ) (lo hi : ℕ) whe
       (r .0 .chain)
       (λ y i. f y (r .0 .links y i))
       (sym e ∙ length-append l (joined ls)))
-      ∙ rows-closed ls (suc g) (length (joined ls)) l0 f b (r .1) refl
+      (omega (arith, a 0, e, length-append l (joined ls)))
+      ∙ rows-closed ls (suc g) (length (joined ls)) l0 f b (r .1) (λ i. a (suc i)) refl

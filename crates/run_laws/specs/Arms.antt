@@ -167,6 +167,11 @@ module _ (c : Counts) (q : Record) (f : ℕ) (links axis times marks : List ℕ)
           (which.call-timed c links f q lo hi) _
           (on-sqs (half c) links axis times marks a u r (λ m s. timedStep c (eqb (q .operation) 11) (q .clause) x-process y-process (q .t) m s) k) ev
 
+      -- by the operation that the code has read
+      pub arm-timed-as : (o : ℕ) → o ≡ q .operation → 10 ≤ q .operation → q .operation ≤ 11
+          → Answers (half c) (timedStep c (eqb o 11) (q .clause) x-process y-process (q .t) marks (sqs axis times)) a u r → Axis
+      arm-timed-as o e lo hi k = arm-timed lo hi (rw e at k)
+
       -- 10 where x is at hand; with no clause, which uses neither y nor t
       pub arm-10 : q .operation ≡ 10 → q .clause ≡ 0 → atHand c q f links ≡ true
           → Answers (half c) (timedStep c false 0 x 0 (pos 0) marks (sqs axis times)) a u r → Axis

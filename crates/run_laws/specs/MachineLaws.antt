@@ -94,6 +94,7 @@ module _ (s : Sheet) (r : InRange s) where
       record {
         links-once = links-once c (m .lists) t w;
         only-links = set-links c (m .lists) t w;
+        limited = w .limited;
         notice-each = notice-each c (m .lists) t w;
         only-processes = notice-process c (m .lists) t w;
         some = w .some;

@@ -22,6 +22,7 @@ use Rattle.model_laws.specs.Now.{nextPlace}
 use Rattle.model_laws.specs.Fresh.{freshHeads, freshAxis, freshTables}
 use Rattle.model_laws.specs.Result.{done, refused, Result}
 use Rattle.simset_laws.specs.Procedures.{followOn, followed, precedeOn, preceded}
+use Rattle.simset_laws.specs.Full.{fullFor}
 use Rattle.simset_laws.specs.Calls.{followStep, intoStep}
 use Rattle.simulation_laws.specs.Plain.{dueFor, placed, noEffect, timed}
 use Rattle.simulation_laws.specs.Plain as plain
@@ -149,7 +150,7 @@ situations =
 
 unfoldable pub met : Situation → Bool
 unfolding plain.hold dueFor placed noEffect timed freshHeads freshAxis freshTables selfLinked unlinked linkedBehind linkedBefore followOn
-    followed precedeOn preceded followStep intoStep seekFrom found dropOn putOn heldAt held passivated cancelled vain dueAt placeFor
+    followed precedeOn preceded fullFor followStep intoStep seekFrom found dropOn putOn heldAt held passivated cancelled vain dueAt placeFor
     putByClause activated holdStep timedStep fresh listsAfter perform tablesAfter
 met s =
     machineMeets (machineAfter (s .calls) (done (fresh (record { counts = c; starts = []; records = [] })))) (s .want)

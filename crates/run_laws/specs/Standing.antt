@@ -12,6 +12,7 @@ use Rattle.model_laws.specs.Tables.{Sized, Spells}
 use Rattle.model_laws.specs.Ready.{Ready, formed-ready}
 use Rattle.model_laws.specs.Once.{spelled-sized}
 use Rattle.model_laws.specs.Now.{half, timeOf, firstOf}
+use Rattle.simset_laws.specs.BoundLaws.{Linking}
 use Rattle.simulation_laws.specs.Promise.{Judged, ready-judged}
 use Rattle.accum_laws.specs.Triples.{flat, flat-length}
 use Rattle.sheet.specs.Sheet.{countsOf, recordsOf, recordOffset, recordWith, recordBytes}
@@ -47,6 +48,9 @@ module _ (c : Counts) (bytes : List ℕ) (u : RunTables) (s : Standing c bytes u
 
   pub ready : Ready c (u .model)
   ready = formed-ready c (s .machine .lists) (u .model) sized (s .stands .model)
+
+  pub linking : Linking c (u .model .links)
+  linking = (s .machine .lists .sets, s .stands .model .links)
 
   pub its-judged : Judged c (u .model .axis)
   its-judged = ready-judged c (u .model) ready

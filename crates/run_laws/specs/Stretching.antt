@@ -14,6 +14,7 @@ use Rattle.model.specs.declared.Counts.{Counts}
 use Rattle.model.specs.declared.Refusal.{Refusal}
 use Rattle.model.specs.Counts.{linkageAt}
 use Rattle.model_laws.specs.Now.{half, firstOf}
+use Rattle.simset_laws.specs.BoundLaws.{Linking}
 use Rattle.sheet.specs.declared.records.Record.{Record}
 use Rattle.sheet.specs.Sheet.{recordOffset}
 use Rattle.trace.specs.Fits.{pastLast}
@@ -28,7 +29,7 @@ use Rattle.run_laws.specs.Tried.{tried, isApart, left-0, made-of, not-le
 use Rattle.run_laws.specs.Paused.{Paused}
 use Rattle.run_laws.specs.Needs.{Performable}
 use Rattle.run_laws.specs.Reads.{got-end}
-use Rattle.run_laws.specs.Standing.{Standing, place-in, positions-length, number-in}
+use Rattle.run_laws.specs.Standing.{Standing, linking, place-in, positions-length, number-in}
 use Rattle.run_laws.specs.StepIs.{Went, stayed}
 use Rattle.run_laws.specs.Turning.{Turning, SameLengths, same-lengths}
 use Rattle.run_laws.specs.Counting.{Counting, counting-start, room-left, counting-on}
@@ -71,6 +72,9 @@ module _ (c : Counts) (bytes : List ℕ) (end stop n₀ : ℕ) (whole : RanOn) (
 
   pub its-call : r ≢ 0 → Performable c bytes (recordOffset (c .processes) r) f time (u .model) (u .words)
   its-call = callable c bytes room n whole u₀ tr₀ (positioned u f r) tr t f time r (s .here)
+
+  pub its-linking : Linking c (u .model .links)
+  its-linking = linking c bytes (positioned u f r) (t .stands)
 
   pub in-table : f < length (u .positions)
   in-table =

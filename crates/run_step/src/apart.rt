@@ -17,6 +17,7 @@ ghost use mathlib.Core.Logic.{_≢_};
 ghost use mathlib.Core.Bool.{true};
 ghost use Rattle.model_laws.specs.Ready.{Ready};
 ghost use Rattle.model_laws.specs.Tables.{modelOf};
+ghost use Rattle.simset_laws.specs.BoundLaws.{Covers, Linking};
 ghost use Rattle.sheet.specs.Sheet.{recordOffset, recordFrom};
 ghost use Rattle.run_laws.specs.Needs.{Callable};
 ghost use Rattle.run_laws.specs.Run.{recordGot};
@@ -59,17 +60,20 @@ fn apart_at(
     axis: &mut [u32],
     times: &mut [u64],
     marks: &[u8],
+    bounds: &mut [u32],
 ) -> Effect
     requires { ⌜ Callable c (now sheet) i f (modelOf (now links) (now axis) (now times) (now marks)) ⌝ }
     requires { ⌜ apart (recordFrom (now sheet) i) ≡ true ⌝ }
+    requires { ⌜ Covers c 0 (now links) (now bounds) ⌝ }
     ensures { λ r. ⌜ Leaves (performed c (recordFrom (now (sheet .entry)) i) f
         (modelOf (now (links .entry)) (now (axis .entry)) (now (times .entry)) (now (marks .entry))))
         (modelOf (now (links .exit)) (now (axis .exit)) (now (times .exit)) (now (marks .exit))) r ⌝ }
+    ensures { λ _. ⌜ (Linking c (now (links .entry)) → Covers c 0 (now (links .exit)) (now (bounds .exit))) ⌝ }
 {
     let op = operation_at(sheet, i);
     match op {
-        2 => unless_refused(follow_of(c, sheet, i, links, f), Effect::Stays),
-        3 => unless_refused(precede_of(c, sheet, i, links, f), Effect::Stays),
+        2 => unless_refused(follow_of(c, sheet, i, links, f, bounds), Effect::Stays),
+        3 => unless_refused(precede_of(c, sheet, i, links, f, bounds), Effect::Stays),
         5 => unless_refused(clear_of(c, sheet, i, links, f), Effect::Stays),
         7 => unless_refused(passivate(c, axis, times), Effect::Moves),
         9 => unless_refused(cancel_of(c, sheet, i, links, axis, times, f), Effect::Moves),
@@ -90,18 +94,21 @@ pub fn perform_apart(
     axis: &mut [u32],
     times: &mut [u64],
     marks: &mut [u8],
+    bounds: &mut [u32],
 ) -> Effect
     requires { ⌜ (r ≢ 0 → Callable c (now sheet) (recordOffset (c .processes) r) f
         (modelOf (now links) (now axis) (now times) (now marks))) ⌝ }
     requires { ⌜ Ready c (modelOf (now links) (now axis) (now times) (now marks)) ⌝ }
     requires { ⌜ apart (recordGot (c .processes) (now sheet) r) ≡ true ⌝ }
+    requires { ⌜ Covers c 0 (now links) (now bounds) ⌝ }
     ensures { λ v. ⌜ Leaves (performed c (recordGot (c .processes) (now (sheet .entry)) r) f
         (modelOf (now (links .entry)) (now (axis .entry)) (now (times .entry)) (now (marks .entry))))
         (modelOf (now (links .exit)) (now (axis .exit)) (now (times .exit)) (now (marks .exit))) v ⌝ }
+    ensures { λ _. ⌜ (Linking c (now (links .entry)) → Covers c 0 (now (links .exit)) (now (bounds .exit))) ⌝ }
 {
     if r == 0 {
         return unless_refused(finish(c, axis, times, marks), Effect::Moves);
     }
     let i = record_offset(c.processes, r);
-    apart_at(c, sheet, i, f, links, axis, times, marks)
+    apart_at(c, sheet, i, f, links, axis, times, marks, bounds)
 }

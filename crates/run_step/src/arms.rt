@@ -20,7 +20,8 @@ ghost use Rattle.model.specs.Counts.{limit};
 ghost use Rattle.model_laws.specs.Now.{half};
 ghost use Rattle.simulation_laws.specs.Calls.{holdStep, cancelStep, timedStep, waitStep};
 ghost use Rattle.simulation_laws.specs.Promise.{sqs, Answers, Judged, Takeable, Noticed};
-ghost use Rattle.simulation_laws.specs.StepPromise.{WaitMade};
+ghost use Rattle.simset_laws.specs.BoundLaws.{Covers};
+ghost use Rattle.simulation_laws.specs.WaitPromise.{WaitEntered};
 ghost use Rattle.accum_laws.specs.Flat.{updatedIn};
 ghost use Rattle.sheet.specs.Sheet.{recordFrom, recordBytes};
 ghost use Rattle.run_laws.specs.OnTables.{operandWith};
@@ -53,15 +54,17 @@ pub(crate) fn wait_of(
     axis: &mut [u32],
     times: &mut [u64],
     f: u32,
+    bounds: &mut [u32],
 ) -> Answer
     requires { ⌜ Readable c (now sheet) i (now links) f (recordFrom (now sheet) i .y) ⌝ }
     requires { ⌜ Takeable c (now axis) (now times) ⌝ }
-    ensures { λ r. ⌜ WaitMade c (waitStep c (operandWith c false (now (links .entry)) f (recordFrom (now (sheet .entry)) i .y))
-        (now (links .entry)) (sqs (now (axis .entry)) (now (times .entry)))) (now (links .exit)) (now (axis .exit)) (now (times .exit))
-        r ⌝ }
+    requires { ⌜ Covers c 0 (now links) (now bounds) ⌝ }
+    ensures { λ r. ⌜ WaitEntered c (now (links .entry)) (waitStep c (operandWith c false (now (links .entry)) f
+        (recordFrom (now (sheet .entry)) i .y)) (now (links .entry)) (sqs (now (axis .entry)) (now (times .entry)))) (now (links .exit))
+        (now (axis .exit)) (now (times .exit)) (now (bounds .exit)) r ⌝ }
 {
     let y = y_of(c, sheet, i, links, f, false);
-    wait(c, links, axis, times, y)
+    wait(c, links, axis, times, y, bounds)
 }
 
 pub(crate) fn cancel_of(

@@ -25,6 +25,7 @@ ghost use Rattle.run_laws.specs.Run.{recordGot};
 ghost use Rattle.run_laws.specs.Performed.{unlessRefused, branched};
 ghost use Rattle.run_laws.specs.Tried.{tried};
 ghost use Rattle.model_laws.specs.Tables.{modelOf};
+ghost use Rattle.simset_laws.specs.BoundLaws.{Covers, Linking};
 
 // An accepted call means e.
 pub(crate) fn unless_refused(a: Answer, e: Effect) -> Effect
@@ -69,8 +70,10 @@ fn perform_at(
     times: &mut [u64],
     marks: &[u8],
     accums: &mut [i64],
+    bounds: &mut [u32],
 ) -> Effect
     requires { ⌜ Performable c (now sheet) i f time (modelOf (now links) (now axis) (now times) (now marks)) (now accums) ⌝ }
+    requires { ⌜ Covers c 0 (now links) (now bounds) ⌝ }
     ensures { λ r. ⌜ record {
       tables = modelOf (now (links .exit)) (now (axis .exit)) (now (times .exit)) (now (marks .exit));
       words = now (accums .exit);
@@ -78,13 +81,17 @@ fn perform_at(
     }
         ≡ tried c (recordFrom (now (sheet .entry)) i) f (modelOf (now (links .entry)) (now (axis .entry)) (now (times .entry))
         (now (marks .entry))) (now (accums .entry)) ⌝ }
+    ensures { λ _. ⌜ (Linking c (now (links .entry)) → Covers c 0 (now (links .exit)) (now (bounds .exit))) ⌝ }
 {
     let op = operation_at(sheet, i);
     match op {
         1 => unless_refused(out_of(c, sheet, i, links, f), Effect::Stays),
-        4 => unless_refused(into_of(c, sheet, i, links, f), Effect::Stays),
+        4 => unless_refused(into_of(c, sheet, i, links, f, bounds), Effect::Stays),
         6 => unless_refused(hold_of(c, sheet, i, axis, times, f, time), Effect::Moves),
-        8 => unless_refused(wait_of(c, sheet, i, links, axis, times, f), Effect::Moves),
+        8 => unless_refused(
+            wait_of(c, sheet, i, links, axis, times, f, bounds),
+            Effect::Moves,
+        ),
         10 => {
             let k = clause_at(sheet, i);
             if k == 2 {
@@ -113,9 +120,11 @@ pub fn perform(
     times: &mut [u64],
     marks: &[u8],
     accums: &mut [i64],
+    bounds: &mut [u32],
 ) -> Effect
     requires { ⌜ (r ≢ 0 → Performable c (now sheet) (recordOffset (c .processes) r) f time
         (modelOf (now links) (now axis) (now times) (now marks)) (now accums)) ⌝ }
+    requires { ⌜ Covers c 0 (now links) (now bounds) ⌝ }
     ensures { λ v. ⌜ record {
       tables = modelOf (now (links .exit)) (now (axis .exit)) (now (times .exit)) (now (marks .exit));
       words = now (accums .exit);
@@ -123,10 +132,23 @@ pub fn perform(
     }
         ≡ tried c (recordGot (c .processes) (now (sheet .entry)) r) f
         (modelOf (now (links .entry)) (now (axis .entry)) (now (times .entry)) (now (marks .entry))) (now (accums .entry)) ⌝ }
+    ensures { λ _. ⌜ (Linking c (now (links .entry)) → Covers c 0 (now (links .exit)) (now (bounds .exit))) ⌝ }
 {
     if r == 0 {
         return Effect::Apart;
     }
     let i = record_offset(c.processes, r);
-    perform_at(c, sheet, i, f, time, links, axis, times, marks, accums)
+    perform_at(
+        c,
+        sheet,
+        i,
+        f,
+        time,
+        links,
+        axis,
+        times,
+        marks,
+        accums,
+        bounds,
+    )
 }

@@ -13,6 +13,8 @@ ghost use Prim.Native.Nat.{_+_};
 ghost use Rattle.model.specs.Counts.{total};
 ghost use Rattle.simset_laws.specs.Calls.{outStep, followStep, precedeStep, intoStep, clearStep};
 ghost use Rattle.simset_laws.specs.Promise.{Moved};
+ghost use Rattle.simset_laws.specs.BoundLaws.{Covers};
+ghost use Rattle.simset_laws.specs.Entering.{Entered};
 ghost use Rattle.sheet.specs.Sheet.{recordFrom};
 ghost use Rattle.run_laws.specs.OnTables.{operandWith};
 ghost use Rattle.run_laws.specs.Needs.{Readable};
@@ -26,40 +28,64 @@ pub(crate) fn out_of(c: Counts, sheet: &[u8], i: usize, links: &mut [u32], f: u3
     out(c, links, x)
 }
 
-pub(crate) fn follow_of(c: Counts, sheet: &[u8], i: usize, links: &mut [u32], f: u32) -> Answer
+pub(crate) fn follow_of(
+    c: Counts,
+    sheet: &[u8],
+    i: usize,
+    links: &mut [u32],
+    f: u32,
+    bounds: &mut [u32],
+) -> Answer
     requires { ⌜ Readable c (now sheet) i (now links) f (recordFrom (now sheet) i .x) ⌝ }
     requires { ⌜ Readable c (now sheet) i (now links) f (recordFrom (now sheet) i .y) ⌝ }
-    ensures { λ r. ⌜ Moved (total c + 1) (followStep c (operandWith c false (now (links .entry)) f (recordFrom (now (sheet .entry)) i .x))
-        (operandWith c false (now (links .entry)) f (recordFrom (now (sheet .entry)) i .y)) (now (links .entry)))
-        (record { links = now (links .exit); answer = r }) ⌝ }
+    requires { ⌜ Covers c 0 (now links) (now bounds) ⌝ }
+    ensures { λ r. ⌜ Entered c (now (links .entry)) (followStep c (operandWith c false (now (links .entry)) f
+        (recordFrom (now (sheet .entry)) i .x)) (operandWith c false (now (links .entry)) f (recordFrom (now (sheet .entry)) i .y))
+        (now (links .entry))) (now (bounds .exit)) (record { links = now (links .exit); answer = r }) ⌝ }
 {
     let x = x_of(c, sheet, i, links, f, false);
     let y = y_of(c, sheet, i, links, f, false);
-    follow(c, links, x, y)
+    follow(c, links, x, y, bounds)
 }
 
-pub(crate) fn precede_of(c: Counts, sheet: &[u8], i: usize, links: &mut [u32], f: u32) -> Answer
+pub(crate) fn precede_of(
+    c: Counts,
+    sheet: &[u8],
+    i: usize,
+    links: &mut [u32],
+    f: u32,
+    bounds: &mut [u32],
+) -> Answer
     requires { ⌜ Readable c (now sheet) i (now links) f (recordFrom (now sheet) i .x) ⌝ }
     requires { ⌜ Readable c (now sheet) i (now links) f (recordFrom (now sheet) i .y) ⌝ }
-    ensures { λ r. ⌜ Moved (total c + 1) (precedeStep c (operandWith c false (now (links .entry)) f (recordFrom (now (sheet .entry)) i .x))
-        (operandWith c false (now (links .entry)) f (recordFrom (now (sheet .entry)) i .y)) (now (links .entry)))
-        (record { links = now (links .exit); answer = r }) ⌝ }
+    requires { ⌜ Covers c 0 (now links) (now bounds) ⌝ }
+    ensures { λ r. ⌜ Entered c (now (links .entry)) (precedeStep c (operandWith c false (now (links .entry)) f
+        (recordFrom (now (sheet .entry)) i .x)) (operandWith c false (now (links .entry)) f (recordFrom (now (sheet .entry)) i .y))
+        (now (links .entry))) (now (bounds .exit)) (record { links = now (links .exit); answer = r }) ⌝ }
 {
     let x = x_of(c, sheet, i, links, f, false);
     let y = y_of(c, sheet, i, links, f, false);
-    precede(c, links, x, y)
+    precede(c, links, x, y, bounds)
 }
 
-pub(crate) fn into_of(c: Counts, sheet: &[u8], i: usize, links: &mut [u32], f: u32) -> Answer
+pub(crate) fn into_of(
+    c: Counts,
+    sheet: &[u8],
+    i: usize,
+    links: &mut [u32],
+    f: u32,
+    bounds: &mut [u32],
+) -> Answer
     requires { ⌜ Readable c (now sheet) i (now links) f (recordFrom (now sheet) i .x) ⌝ }
     requires { ⌜ Readable c (now sheet) i (now links) f (recordFrom (now sheet) i .y) ⌝ }
-    ensures { λ r. ⌜ Moved (total c + 1) (intoStep c (operandWith c false (now (links .entry)) f (recordFrom (now (sheet .entry)) i .x))
-        (operandWith c false (now (links .entry)) f (recordFrom (now (sheet .entry)) i .y)) (now (links .entry)))
-        (record { links = now (links .exit); answer = r }) ⌝ }
+    requires { ⌜ Covers c 0 (now links) (now bounds) ⌝ }
+    ensures { λ r. ⌜ Entered c (now (links .entry)) (intoStep c (operandWith c false (now (links .entry)) f
+        (recordFrom (now (sheet .entry)) i .x)) (operandWith c false (now (links .entry)) f (recordFrom (now (sheet .entry)) i .y))
+        (now (links .entry))) (now (bounds .exit)) (record { links = now (links .exit); answer = r }) ⌝ }
 {
     let link = x_of(c, sheet, i, links, f, false);
     let head = y_of(c, sheet, i, links, f, false);
-    into(c, links, link, head)
+    into(c, links, link, head, bounds)
 }
 
 pub(crate) fn clear_of(c: Counts, sheet: &[u8], i: usize, links: &mut [u32], f: u32) -> Answer

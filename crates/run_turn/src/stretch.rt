@@ -1,6 +1,7 @@
 // A stretch of turns on judged tables, with no call that is made apart: the loop that nearly all steps are made in. Current's place, its
 // time and the record that it is at are kept beside the tables; place and time are read again only after a call that may change the first
-// notice, and the record goes to the table when another process is current and when the stretch ends.
+// notice, and the record goes to the table when another process is current and when the stretch ends. Bounds of the sets' sizes are handed
+// on, so that a set is seldom counted when a link enters it.
 use model::Counts;
 use run_laws::Effect;
 use run_laws::Pause;
@@ -19,6 +20,7 @@ use trace::past_last;
 ghost use mathlib.Core.Path.{_≡_};
 ghost use Prim.Native.Nat.{_*_, _-_, _/_, _≤_};
 ghost use lib.ListN.{length};
+ghost use Rattle.simset_laws.specs.BoundLaws.{Covers};
 ghost use Rattle.run_laws.specs.Run.{lent, turnsOn};
 ghost use Rattle.run_laws.specs.Standing.{Standing};
 ghost use Rattle.run_laws.specs.Paused.{Paused};
@@ -37,18 +39,21 @@ pub fn stretch(
     trace: &mut [u8],
     from: usize,
     end: usize,
+    bounds: &mut [u32],
 ) -> Stretch
     requires { ⌜ Standing c (now sheet) (lent (now links) (now axis) (now times) (now marks) (now positions) (now accums)) ⌝ }
     requires { ⌜ length (now trace) ≤ traceLimit ⌝ }
     requires { ⌜ from ≡ lineSize * (from / lineSize) ⌝ }
     requires { ⌜ from ≤ end ⌝ }
     requires { ⌜ end ≤ length (now trace) ⌝ }
+    requires { ⌜ Covers c 0 (now links) (now bounds) ⌝ }
     ensures { λ s. ⌜ Paused c (now (sheet .entry)) (end / lineSize) (from / lineSize)
         (turnsOn c (now (sheet .entry)) (from / lineSize) (end / lineSize - from / lineSize)
         (lent (now (links .entry)) (now (axis .entry)) (now (times .entry)) (now (marks .entry)) (now (positions .entry))
         (now (accums .entry))) (now (trace .entry)))
         (now (trace .entry)) (lent (now (links .exit)) (now (axis .exit)) (now (times .exit)) (now (marks .exit)) (now (positions .exit))
         (now (accums .exit))) (now (trace .exit)) s ⌝ }
+    ensures { λ _. ⌜ Covers c 0 (now (links .exit)) (now (bounds .exit)) ⌝ }
 {
     let stop = past_last(end);
     let mut at = from;
@@ -56,7 +61,19 @@ pub fn stretch(
     let mut time = time_of(times, f);
     let mut r = record_of(positions, f);
     while at < stop {
-        match perform(c, sheet, r, f, time, links, axis, times, marks, accums) {
+        match perform(
+            c,
+            sheet,
+            r,
+            f,
+            time,
+            links,
+            axis,
+            times,
+            marks,
+            accums,
+            bounds,
+        ) {
             Effect::Stays => {
                 write(c, trace, f, time, r, at);
                 r = next_of(sheet, c.processes, r);

@@ -14,11 +14,13 @@ use run_step::reading::next_of;
 use run_step::reading::place_now;
 use run_step::reading::record_of;
 use run_step::reading::time_of;
+use simset::room::BOUNDS;
 use trace::LINE_BYTES;
 ghost use mathlib.Core.Path.{_≡_};
 ghost use mathlib.Core.Bool.{true};
 ghost use Prim.Native.Nat.{_+_, _*_, _/_, _≤_};
 ghost use lib.ListN.{length};
+ghost use Rattle.simset_laws.specs.BoundLaws.{Covers};
 ghost use Rattle.run_laws.specs.Run.{lent, recordGot, recordAtNow, turnOn};
 ghost use Rattle.run_laws.specs.Standing.{Standing};
 ghost use Rattle.run_laws.specs.Tried.{apart};
@@ -36,11 +38,13 @@ pub fn turn_apart(
     accums: &[i64],
     trace: &mut [u8],
     i: usize,
+    bounds: &mut [u32],
 ) -> Turn
     requires { ⌜ Standing c (now sheet) (lent (now links) (now axis) (now times) (now marks) (now positions) (now accums)) ⌝ }
     requires { ⌜ i + lineSize ≤ length (now trace) ⌝ }
     requires { ⌜ apart (recordGot (c .processes) (now sheet)
         (recordAtNow c (lent (now links) (now axis) (now times) (now marks) (now positions) (now accums)))) ≡ true ⌝ }
+    requires { ⌜ Covers c 0 (now links) (now bounds) ⌝ }
     ensures { λ r. ⌜ record {
       run = lent (now (links .exit)) (now (axis .exit)) (now (times .exit)) (now (marks .exit))
           (now (positions .exit)) (now (accums .exit));
@@ -49,6 +53,7 @@ pub fn turn_apart(
     }
         ≡ turnOn c (now (sheet .entry)) i (lent (now (links .entry)) (now (axis .entry)) (now (times .entry)) (now (marks .entry))
         (now (positions .entry)) (now (accums .entry))) (now (trace .entry)) ⌝ }
+    ensures { λ _. ⌜ Covers c 0 (now (links .exit)) (now (bounds .exit)) ⌝ }
 {
     let f = place_now(c, axis);
     let r = record_of(positions, f);
@@ -56,7 +61,7 @@ pub fn turn_apart(
         return Turn::Finished;
     }
     let time = time_of(times, f);
-    let e = perform_apart(c, sheet, r, f, links, axis, times, marks);
+    let e = perform_apart(c, sheet, r, f, links, axis, times, marks, bounds);
     match verdict_of(e) {
         Verdict::Refused(q) => Turn::Refused(q),
         Verdict::Fine => {
@@ -68,7 +73,7 @@ pub fn turn_apart(
 }
 
 // A turn whose call may be any; byte i is behind whole lines, and there is room for one more: a stretch of one line, and a turn apart where
-// that leaves the call.
+// that leaves the call. A set that is entered is counted, since a single turn has no bound of its size.
 pub fn turn(
     c: Counts,
     sheet: &[u8],
@@ -94,6 +99,7 @@ pub fn turn(
         ≡ turnOn c (now (sheet .entry)) i (lent (now (links .entry)) (now (axis .entry)) (now (times .entry)) (now (marks .entry))
         (now (positions .entry)) (now (accums .entry))) (now (trace .entry)) ⌝ }
 {
+    let mut bounds = [Counts::MAX_MEMBERS; BOUNDS];
     let s = stretch(
         c,
         sheet,
@@ -106,6 +112,7 @@ pub fn turn(
         trace,
         i,
         i + LINE_BYTES,
+        &mut bounds,
     );
     let pause = s.pause;
     match pause {
@@ -122,6 +129,7 @@ pub fn turn(
             accums,
             trace,
             i,
+            &mut bounds,
         ),
     }
 }

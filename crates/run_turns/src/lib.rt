@@ -1,5 +1,5 @@
 // Turn after turn on judged tables, until main has finished, the trace is full or a step is refused: stretches of turns, and between them
-// a turn whose call no stretch makes.
+// a turn whose call no stretch makes. Bounds of the sets' sizes stand beside the tables while this goes on.
 use machine::End;
 use model::Counts;
 use run_laws::Pause;
@@ -10,6 +10,7 @@ use run_step::reading::place_now;
 use run_step::reading::record_of;
 use run_turn::stretch::stretch;
 use run_turn::turn::turn_apart;
+use simset::room::BOUNDS;
 use trace::LINE_BYTES;
 use trace::lines_in;
 use trace::past_last;
@@ -43,6 +44,7 @@ pub fn turns(
         (lent (now (links .entry)) (now (axis .entry)) (now (times .entry)) (now (marks .entry)) (now (positions .entry))
         (now (accums .entry))) (now (trace .entry)) ⌝ }
 {
+    let mut bounds = [Counts::MAX_MEMBERS; BOUNDS];
     let end = trace.len();
     let stop = past_last(end);
     let mut at = 0;
@@ -59,6 +61,7 @@ pub fn turns(
             trace,
             at,
             end,
+            &mut bounds,
         );
         at = s.at;
         let pause = s.pause;
@@ -81,6 +84,7 @@ pub fn turns(
                 accums,
                 trace,
                 at,
+                &mut bounds,
             ) {
                 Turn::Finished => {
                     return Ran {

@@ -1,2 +1,3 @@
 -- laws that the proofs of the code cite
 pub mod Moving
+pub mod Rooms

@@ -3,7 +3,7 @@ use ring::wide;
 ghost use mathlib.Core.Path.{_≡_};
 ghost use Prim.Native.Nat.{_<_};
 ghost use Rattle.ring_laws.specs.Table.{Sound};
-ghost use Rattle.simset_laws.specs.Told.{headAt};
+ghost use Rattle.simset_laws.specs.Walk.{headAt};
 
 // Along the ring of x to its head, none where x lies on no ring. No ring has more than all linkages.
 pub fn head_at(t: &[u32], m: usize, heads: u32, x: u32) -> u32

@@ -1,5 +1,7 @@
-// The set calls on the links of a judged model: refusal 3 by the operands' kinds, or the procedure. Runs use these too.
+// The set calls on the links of a judged model: refusal 3 by the operands' kinds, for those that enter a set 10 by its room, or the procedure.
+// Runs use these too.
 use crate::procedures;
+use crate::room::no_room;
 use model::Counts;
 use model::Refusal;
 use model::answer::Answer;
@@ -11,6 +13,8 @@ ghost use Rattle.ring_laws.specs.Table.{Sound};
 ghost use Rattle.model.specs.Counts.{total, isHead, isLinkage};
 ghost use Rattle.simset_laws.specs.Calls.{orNone, outStep, followStep, precedeStep, intoStep, clearStep};
 ghost use Rattle.simset_laws.specs.Promise.{Moved};
+ghost use Rattle.simset_laws.specs.BoundLaws.{Covers};
+ghost use Rattle.simset_laws.specs.Entering.{Entered};
 
 // A linkage, or none.
 fn linkage_or_none(c: Counts, y: u32) -> bool
@@ -42,9 +46,11 @@ pub fn out(c: Counts, links: &mut [u32], x: u32) -> Answer
     Answer::Done
 }
 
-pub fn follow(c: Counts, links: &mut [u32], x: u32, y: u32) -> Answer
+pub fn follow(c: Counts, links: &mut [u32], x: u32, y: u32, bounds: &mut [u32]) -> Answer
     requires { ⌜ Sound (total c + 1) (now links) ⌝ }
-    ensures { λ r. ⌜ Moved (total c + 1) (followStep c x y (now (links .entry))) (record { links = now (links .exit); answer = r }) ⌝ }
+    requires { ⌜ Covers c 0 (now links) (now bounds) ⌝ }
+    ensures { λ r. ⌜ Entered c (now (links .entry)) (followStep c x y (now (links .entry))) (now (bounds .exit))
+        (record { links = now (links .exit); answer = r }) ⌝ }
 {
     let a = c.is_link(x);
     if !a {
@@ -53,15 +59,20 @@ pub fn follow(c: Counts, links: &mut [u32], x: u32, y: u32) -> Answer
     let b = linkage_or_none(c, y);
     if !b {
         return Answer::Refused(Refusal::Operand);
+    }
+    if no_room(c, links, x, y, bounds) {
+        return Answer::Refused(Refusal::Full);
     }
     let n = c.total();
     procedures::follow(links, n + 1, x, y);
     Answer::Done
 }
 
-pub fn precede(c: Counts, links: &mut [u32], x: u32, y: u32) -> Answer
+pub fn precede(c: Counts, links: &mut [u32], x: u32, y: u32, bounds: &mut [u32]) -> Answer
     requires { ⌜ Sound (total c + 1) (now links) ⌝ }
-    ensures { λ r. ⌜ Moved (total c + 1) (precedeStep c x y (now (links .entry))) (record { links = now (links .exit); answer = r }) ⌝ }
+    requires { ⌜ Covers c 0 (now links) (now bounds) ⌝ }
+    ensures { λ r. ⌜ Entered c (now (links .entry)) (precedeStep c x y (now (links .entry))) (now (bounds .exit))
+        (record { links = now (links .exit); answer = r }) ⌝ }
 {
     let a = c.is_link(x);
     if !a {
@@ -71,14 +82,19 @@ pub fn precede(c: Counts, links: &mut [u32], x: u32, y: u32) -> Answer
     if !b {
         return Answer::Refused(Refusal::Operand);
     }
+    if no_room(c, links, x, y, bounds) {
+        return Answer::Refused(Refusal::Full);
+    }
     let n = c.total();
     procedures::precede(links, n + 1, x, y);
     Answer::Done
 }
 
-pub fn into(c: Counts, links: &mut [u32], x: u32, y: u32) -> Answer
+pub fn into(c: Counts, links: &mut [u32], x: u32, y: u32, bounds: &mut [u32]) -> Answer
     requires { ⌜ Sound (total c + 1) (now links) ⌝ }
-    ensures { λ r. ⌜ Moved (total c + 1) (intoStep c x y (now (links .entry))) (record { links = now (links .exit); answer = r }) ⌝ }
+    requires { ⌜ Covers c 0 (now links) (now bounds) ⌝ }
+    ensures { λ r. ⌜ Entered c (now (links .entry)) (intoStep c x y (now (links .entry))) (now (bounds .exit))
+        (record { links = now (links .exit); answer = r }) ⌝ }
 {
     let a = c.is_link(x);
     if !a {
@@ -87,6 +103,9 @@ pub fn into(c: Counts, links: &mut [u32], x: u32, y: u32) -> Answer
     let b = head_or_none(c, y);
     if !b {
         return Answer::Refused(Refusal::Operand);
+    }
+    if no_room(c, links, x, y, bounds) {
+        return Answer::Refused(Refusal::Full);
     }
     let n = c.total();
     procedures::precede(links, n + 1, x, y);

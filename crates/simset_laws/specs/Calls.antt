@@ -1,16 +1,17 @@
--- The set calls on judged tables: refusal 3, or the procedure.
+-- The set calls on judged tables: refusal 3, for a call that enters a set refusal 10, or the procedure.
 use Prim.Native.Nat.{ℕ, _+_}
 use mathlib.Core.Bool.{Bool, true, false, _&&_, _||_}
 use mathlib.Core.List.{List}
 use lib.Dec.{eqb}
 use Rattle.ring_laws.specs.Table.{unlinked}
 use Rattle.model.specs.declared.Counts.{Counts}
-use Rattle.model.specs.declared.Refusal.the-variants.{Operand}
+use Rattle.model.specs.declared.Refusal.the-variants.{Operand, Full}
 use Rattle.model.specs.Counts.{total, isHead, isLink, isLinkage}
 use Rattle.model.specs.declared.answer.Answer.{Answer}
 use Rattle.model.specs.declared.answer.Answer.the-variants.{Done, Linkage, Number, Truth, Refused}
 use Rattle.model_laws.specs.Tables.{Tables, After, modelOf}
 use Rattle.simset_laws.specs.Procedures.{followed, preceded, cleared, sucOf, predOf, emptyOf, cardinalOf}
+use Rattle.simset_laws.specs.Full.{fullFor}
 
 -- the links after a call, and its answer
 pub record Linked : Type 0 where
@@ -21,6 +22,12 @@ pub record Linked : Type 0 where
 abbrev pub linkedIf : Bool → List ℕ → List ℕ → Linked
 linkedIf true t u = record { links = u; answer = Done }
 linkedIf false t u = record { links = t; answer = Refused Operand }
+
+-- then refusal 10, by a set that is full
+abbrev pub enteredIf : Bool → Bool → List ℕ → List ℕ → Linked
+enteredIf true false t u = record { links = u; answer = Done }
+enteredIf true true t u = record { links = t; answer = Refused Full }
+enteredIf false b t u = record { links = t; answer = Refused Operand }
 
 abbrev pub toldIf : Bool → Answer → Answer
 toldIf true a = a
@@ -35,14 +42,14 @@ unfoldable pub outStep : Counts → ℕ → List ℕ → Linked
 outStep c x t = linkedIf (isLink c x) t (unlinked (total c + 1) x t)
 
 unfoldable pub followStep : Counts → ℕ → ℕ → List ℕ → Linked
-followStep c x y t = linkedIf (isLink c x && orNone (isLinkage c y) y) t (followed (total c + 1) x y t)
+followStep c x y t = enteredIf (isLink c x && orNone (isLinkage c y) y) (fullFor c x y t) t (followed (total c + 1) x y t)
 
 unfoldable pub precedeStep : Counts → ℕ → ℕ → List ℕ → Linked
-precedeStep c x y t = linkedIf (isLink c x && orNone (isLinkage c y) y) t (preceded (total c + 1) x y t)
+precedeStep c x y t = enteredIf (isLink c x && orNone (isLinkage c y) y) (fullFor c x y t) t (preceded (total c + 1) x y t)
 
 -- "Into(S) is precede(S)", of a head
 unfoldable pub intoStep : Counts → ℕ → ℕ → List ℕ → Linked
-intoStep c x y t = linkedIf (isLink c x && orNone (isHead c y) y) t (preceded (total c + 1) x y t)
+intoStep c x y t = enteredIf (isLink c x && orNone (isHead c y) y) (fullFor c x y t) t (preceded (total c + 1) x y t)
 
 unfoldable pub clearStep : Counts → ℕ → List ℕ → Linked
 clearStep c x t = linkedIf (isHead c x) t (cleared (total c + 1) x t)

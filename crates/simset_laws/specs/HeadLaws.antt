@@ -16,8 +16,8 @@ use Rattle.ring_laws.specs.Stores.{sucs, pres, suc-at}
 use Rattle.ring_laws.specs.Spell.{spells-few}
 use Rattle.model_laws.specs.Tables.{setHead, membersOf, SpellsSets}
 use Rattle.simset_laws.specs.Sets.{clearSets}
-use Rattle.simset_laws.specs.Walk.{firstFrom, from-found, from-on}
-use Rattle.simset_laws.specs.Told.{headOf, headAt}
+use Rattle.simset_laws.specs.Walk.{firstFrom, headAt, from-found, from-on}
+use Rattle.simset_laws.specs.Told.{headOf}
 use Rattle.simset_laws.specs.Laws.{nowhere}
 use Rattle.simset_laws.specs.QueryLaws.{found, lost}
 

@@ -16,8 +16,9 @@ use Rattle.model_laws.specs.Called.{called, ifAccepted}
 use Rattle.model_laws.specs.Result.{KeepsRefused, answering-kept, called-kept}
 use Rattle.model_laws.specs.Tables.{modelOf}
 use Rattle.simset_laws.specs.Procedures.{followed, preceded, cleared}
-use Rattle.simset_laws.specs.Calls.{linkedIf, toldIf, orNone, onLinks, ofLinks, outStep, followStep, precedeStep, intoStep}
+use Rattle.simset_laws.specs.Calls.{linkedIf, enteredIf, toldIf, orNone, onLinks, ofLinks, outStep, followStep, precedeStep, intoStep}
 use Rattle.simset_laws.specs.Calls.{clearStep, cardinalTold}
+use Rattle.simset_laws.specs.Full.{fullFor}
 use Rattle.simset_laws.specs.Plain.{linksAfter}
 use Rattle.simset_laws.specs.Told.{headTold, setTold, setAnswered}
 
@@ -26,12 +27,18 @@ if-kept : (b : Bool) (t u : List ℕ) (r : Refusal) → linkedIf b t u .answer �
 if-kept true t u r e = let z : false ≡ true = cc in clash z
 if-kept false t u r e = refl
 
+-- by two
+entry-kept : (b f : Bool) (t u : List ℕ) (r : Refusal) → enteredIf b f t u .answer ≡ Refused r → enteredIf b f t u .links ≡ t
+entry-kept true false t u r e = let z : false ≡ true = cc in clash z
+entry-kept true true t u r e = refl
+entry-kept false f t u r e = refl
+
 links-kept : (c : Counts) (k : SetCall) (t : List ℕ) (r : Refusal) → linksAfter c k t .answer ≡ Refused r → linksAfter c k t .links ≡ t
 unfolding outStep followStep precedeStep intoStep clearStep
 links-kept c (Out x) t r e = if-kept (isLink c x) t (unlinked (total c + 1) x t) r e
-links-kept c (Follow x y) t r e = if-kept (isLink c x && orNone (isLinkage c y) y) t (followed (total c + 1) x y t) r e
-links-kept c (Precede x y) t r e = if-kept (isLink c x && orNone (isLinkage c y) y) t (preceded (total c + 1) x y t) r e
-links-kept c (Into x y) t r e = if-kept (isLink c x && orNone (isHead c y) y) t (preceded (total c + 1) x y t) r e
+links-kept c (Follow x y) t r e = entry-kept (isLink c x && orNone (isLinkage c y) y) (fullFor c x y t) t (followed (total c + 1) x y t) r e
+links-kept c (Precede x y) t r e = entry-kept (isLink c x && orNone (isLinkage c y) y) (fullFor c x y t) t (preceded (total c + 1) x y t) r e
+links-kept c (Into x y) t r e = entry-kept (isLink c x && orNone (isHead c y) y) (fullFor c x y t) t (preceded (total c + 1) x y t) r e
 links-kept c (Clear x) t r e = if-kept (isHead c x) t (cleared (total c + 1) x t) r e
 
 pub set-steps : (c : Counts) (k : SetCall) → KeepsRefused (onLinks (linksAfter c k))
@@ -44,6 +51,12 @@ own-if : (b a : Bool) (t u : List ℕ) (v : Answer) (r : Refusal) → (b ≡ tru
 own-if true a t u v r f n e = absurd (n (rw (f refl) at e))
 own-if false a t u v r f n e = e
 
+own-entry : (b f a : Bool) (t u : List ℕ) (v : Answer) (r : Refusal) → (b ≡ true → a ≡ true) → (v ≡ Refused r → ⊥)
+    → ifAccepted (enteredIf b f t u .answer) (toldIf a v) ≡ Refused r → enteredIf b f t u .answer ≡ Refused r
+own-entry true false a t u v r k n e = absurd (n (rw (k refl) at e))
+own-entry true true a t u v r k n e = e
+own-entry false f a t u v r k n e = e
+
 no-linkage : (x : ℕ) (r : Refusal) → Linkage x ≡ Refused r → ⊥
 no-linkage x r e = clash (cc)
 
@@ -55,11 +68,11 @@ own : (c : Counts) (k : SetCall) (t : List ℕ) (r : Refusal) → ifAccepted (li
 unfolding outStep followStep precedeStep intoStep clearStep headTold cardinalTold
 own c (Out x) t r e = own-if (isLink c x) (isLink c x) t _ _ r (λ q. q) (no-linkage _ r) e
 own c (Follow x y) t r e =
-    own-if (isLink c x && orNone (isLinkage c y) y) (isLink c x) t _ _ r (λ q. both _ _ q .0) (no-linkage _ r) e
+    own-entry (isLink c x && orNone (isLinkage c y) y) (fullFor c x y t) (isLink c x) t _ _ r (λ q. both _ _ q .0) (no-linkage _ r) e
 own c (Precede x y) t r e =
-    own-if (isLink c x && orNone (isLinkage c y) y) (isLink c x) t _ _ r (λ q. both _ _ q .0) (no-linkage _ r) e
+    own-entry (isLink c x && orNone (isLinkage c y) y) (fullFor c x y t) (isLink c x) t _ _ r (λ q. both _ _ q .0) (no-linkage _ r) e
 own c (Into x y) t r e =
-    own-if (isLink c x && orNone (isHead c y) y) (isLink c x) t _ _ r (λ q. both _ _ q .0) (no-linkage _ r) e
+    own-entry (isLink c x && orNone (isHead c y) y) (fullFor c x y t) (isLink c x) t _ _ r (λ q. both _ _ q .0) (no-linkage _ r) e
 own c (Clear x) t r e = own-if (isHead c x) (isHead c x) t _ _ r (λ q. q) (no-number _ r) e
 
 -- the public calls

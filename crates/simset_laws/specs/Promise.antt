@@ -9,14 +9,15 @@ use borrow.Author.Tests.{eqb-true, leb-true, le-leb, ne-eqb, not-true, not-false
 use Rattle.ring_laws.specs.Lists.{clash}
 use Rattle.ring_laws.specs.Table.{Sound, Made}
 use Rattle.model.specs.declared.Counts.{Counts}
-use Rattle.model.specs.declared.Refusal.the-variants.{Operand}
+use Rattle.model.specs.declared.Refusal.the-variants.{Operand, Full}
 use Rattle.model.specs.Counts.{total, isHead, isLink, isLinkage, both}
 use Rattle.model.specs.declared.answer.Answer.{Answer}
 use Rattle.model.specs.declared.answer.Answer.the-variants.{Done, Refused}
 use Rattle.model.specs.declared.call.SetCall.{SetCall}
 use Rattle.model_laws.specs.Tables.{modelOf}
 use Rattle.model_laws.specs.Called.{ifAccepted}
-use Rattle.simset_laws.specs.Calls.{Linked, linkedIf, toldIf, orNone, onLinks}
+use Rattle.simset_laws.specs.Procedures.{followed, preceded}
+use Rattle.simset_laws.specs.Calls.{Linked, linkedIf, enteredIf, toldIf, orNone, onLinks}
 use Rattle.simset_laws.specs.Plain.{linksAfter}
 use Rattle.simset_laws.specs.Told.{setTold, linksAnswered}
 
@@ -57,6 +58,27 @@ module _ (m : ℕ) (t u : List ℕ) where
 
   pub moved : (b : Bool) (v : List ℕ) → b ≡ true → Made m u v → Moved m (linkedIf b t u) (record { links = v; answer = Done })
   moved b v e k = rw e (record { is = ap (λ (l : List ℕ). record { links = l; answer = Done }) (k .is); sound = k .sound })
+
+  -- the same of a call that enters a set
+  pub entry-not : (b f : Bool) → Sound m t → b ≡ false → Moved m (enteredIf b f t u) (record { links = t; answer = Refused Operand })
+  entry-not b f s e = rw e (record { is = refl; sound = s })
+
+  pub entry-full : (b f : Bool) → Sound m t → b ≡ true → f ≡ true
+      → Moved m (enteredIf b f t u) (record { links = t; answer = Refused Full })
+  entry-full b f s e q = rw (e, q) (record { is = refl; sound = s })
+
+  pub entered : (b f : Bool) (v : List ℕ) → b ≡ true → f ≡ false → Made m u v
+      → Moved m (enteredIf b f t u) (record { links = v; answer = Done })
+  entered b f v e q k = rw (e, q) (record { is = ap (λ (l : List ℕ). record { links = l; answer = Done }) (k .is); sound = k .sound })
+
+-- the procedures by the number of linkages that the code has read
+pub followed-at : (c : Counts) (n x y : ℕ) (t v : List ℕ) → n ≡ total c → Made (n + 1) (followed (n + 1) x y t) v
+    → Made (total c + 1) (followed (total c + 1) x y t) v
+followed-at c n x y t v e k = rw e at k
+
+pub preceded-at : (c : Counts) (n x y : ℕ) (t v : List ℕ) → n ≡ total c → Made (n + 1) (preceded (n + 1) x y t) v
+    → Made (total c + 1) (preceded (total c + 1) x y t) v
+preceded-at c n x y t v e k = rw e at k
 
 -- a test that the code makes, by its result
 pub failed : (a b : Bool) → a ≡ b → not a ≡ true → b ≡ false

@@ -1,11 +1,12 @@
 -- The set operations on plain lists, one list of links for each head: what the set calls mean.
 use Prim.Native.Nat.{ℕ, suc, _-_}
-use mathlib.Core.Bool.{Bool, true, false}
+use mathlib.Core.Bool.{Bool, true, false, _||_}
 use mathlib.Core.List.{List, [], _∷_, _++_, map}
-use lib.Dec.{eqb}
-use lib.ListN.{set}
+use lib.Dec.{eqb, ltb}
+use lib.ListN.{length, set}
 use Rattle.ring_laws.specs.Lists.{if_then_else_, without, behind, ahead}
 use Rattle.ring_laws.specs.Tabulate.{has}
+use Rattle.model.specs.Counts.{mostMembers}
 
 -- f done to each list, with the number of its head; the list of head 1 comes first
 abbrev pub eachSet : (ℕ → List ℕ → List ℕ) → ℕ → List (List ℕ) → List (List ℕ)
@@ -34,6 +35,11 @@ precedeSets x y sets = putAhead x y (outSets x sets)
 -- "Clear empties a list"
 abbrev pub clearSets : ℕ → List (List ℕ) → List (List ℕ)
 clearSets h sets = set sets (h - 1) []
+
+-- does some set have more members than a set may have?
+abbrev pub exceeds : List (List ℕ) → Bool
+exceeds [] = false
+exceeds (l ∷ ls) = ltb mostMembers (length l) || exceeds ls
 
 -- ---- what the queries tell
 

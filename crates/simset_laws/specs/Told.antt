@@ -2,8 +2,7 @@
 -- lists before the call".
 use Prim.Native.Nat.{ℕ, _+_}
 use mathlib.Core.List.{List}
-use lib.Dec.{leb}
-use lib.ListN.{length, getD}
+use lib.ListN.{length}
 use Rattle.model.specs.declared.Counts.{Counts}
 use Rattle.model.specs.Counts.{total, isLink}
 use Rattle.model.specs.declared.answer.Answer.{Answer}
@@ -15,7 +14,7 @@ use Rattle.model_laws.specs.Called.{ifAccepted, answering}
 use Rattle.simset_laws.specs.Sets.{whereIn}
 use Rattle.simset_laws.specs.Calls.{Linked, toldIf, cardinalTold, onLinks, ofLinks}
 use Rattle.simset_laws.specs.Plain.{linksAfter}
-use Rattle.simset_laws.specs.Walk.{firstFrom}
+use Rattle.simset_laws.specs.Walk.{headAt}
 
 -- ---- on lists
 
@@ -33,10 +32,6 @@ setTells (Into x y) sets = Linkage (headOf x sets)
 setTells (Clear h) sets = Number (length (membersOf sets h))
 
 -- ---- on a table of links, whose heads are 1 .. H
-
--- the head of the ring on which the link x lies: the first head behind it, none where it lies on no ring
-abbrev pub headAt : ℕ → ℕ → ℕ → List ℕ → ℕ
-headAt m H x t = firstFrom (λ i. leb i H) H t m (getD t x 0)
 
 -- refused where x is no link, as the calls are then
 unfoldable pub headTold : Counts → ℕ → List ℕ → Answer

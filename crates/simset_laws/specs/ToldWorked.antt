@@ -18,6 +18,7 @@ use Rattle.simset_laws.specs.Procedures.{followOn, followed, precedeOn, 
 use Rattle.simset_laws.specs.Calls.{outStep, followStep, precedeStep, intoStep, clearStep, cardinalTold}
 use Rattle.simset_laws.specs.Plain.{setCall}
 use Rattle.simset_laws.specs.Walk.{firstFrom}
+use Rattle.simset_laws.specs.Full.{fullFor}
 use Rattle.simset_laws.specs.Told.{setTells, headTold, setAnswered}
 
 -- heads 1 and 2, main 3, links 4 to 6
@@ -77,5 +78,5 @@ tabled (r ∷ rs) t = same (setAnswered c (r .call) t .answer) (r .answer) && ta
 
 pub told-each : listed rows (freshLists c) && tabled rows (freshTables c) ≡ true
 unfolding rows freshHeads freshAxis freshTables selfLinked unlinked linkedBehind linkedBefore steps followOn followed precedeOn preceded
-    clearing cleared outStep followStep precedeStep intoStep clearStep cardinalTold firstFrom headTold
+    clearing cleared outStep followStep precedeStep intoStep clearStep cardinalTold firstFrom headTold fullFor
 told-each = refl

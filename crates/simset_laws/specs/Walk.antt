@@ -7,14 +7,18 @@ use mathlib.Core.List.{List}
 use native.Mathlib.Omega.{arith}
 use lib.Dec.{leb}
 use lib.ListN.{getD}
-use borrow.Author.Tests.{le-leb, lt-leb}
-use Rattle.ring_laws.specs.Lists.{if_then_else_}
+use borrow.Author.Tests.{le-leb, lt-leb, leb-true}
+use Rattle.ring_laws.specs.Lists.{if_then_else_, test}
 use Rattle.ring_laws.specs.Table.{Sound}
 
 -- from i on, by at most k places: the first place that f holds of, none where a head comes before it
 unfoldable pub firstFrom : (ℕ → Bool) → ℕ → List ℕ → ℕ → ℕ → ℕ
 firstFrom f H t zero i = 0
 firstFrom f H t (suc k) i = if f i then i else if leb i H then 0 else firstFrom f H t k (getD t i 0)
+
+-- the head of the ring on which the link x lies: the first head behind it, none where it lies on no ring; m is N + 1
+abbrev pub headAt : ℕ → ℕ → ℕ → List ℕ → ℕ
+headAt m H x t = firstFrom (λ i. leb i H) H t m (getD t x 0)
 
 -- ---- its clauses
 
@@ -37,6 +41,12 @@ module _ (f : ℕ → Bool) (H : ℕ) (t : List ℕ) where
   pub from-on : (k i : ℕ) → f i ≡ false → H < i → firstFrom f H t (suc k) i ≡ firstFrom f H t k (getD t i 0)
   unfolding firstFrom
   from-on k i e l = rw (e, lt-leb i H l)
+
+-- a walk to a head ends at one, or at none
+pub head-found : (H : ℕ) (t : List ℕ) (k i : ℕ) → firstFrom (λ j. leb j H) H t k i ≤ H
+unfolding firstFrom
+head-found H t zero i = omega arith
+head-found H t (suc k) i = test (leb i H) (λ e. rw e (leb-true i H e)) (λ e. rw e (head-found H t k (getD t i 0)))
 
 -- ---- the loop, begun at v with m places to go: it is at i, with k places left
 

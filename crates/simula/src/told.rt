@@ -13,7 +13,7 @@ use simulation_axis::first;
 ghost use mathlib.Core.Path.{_≡_};
 ghost use Prim.Native.Nat.{_+_};
 ghost use Rattle.ring_laws.specs.Table.{Sound};
-ghost use Rattle.model.specs.Counts.{total};
+ghost use Rattle.model.specs.Counts.{Allowed, total};
 ghost use Rattle.model_laws.specs.Called.{ifAccepted};
 ghost use Rattle.model_laws.specs.Tables.{modelOf};
 ghost use Rattle.simset_laws.specs.Promise.{Moved};
@@ -79,6 +79,7 @@ fn if_accepted(a: Answer, told: Answer) -> Answer
 // The step of a call, answered by what was told before it.
 pub(crate) fn set_answer(c: Counts, links: &mut [u32], call: SetCall) -> Answer
     requires { ⌜ Sound (total c + 1) (now links) ⌝ }
+    requires { ⌜ Allowed c ⌝ }
     ensures { λ r. ⌜ Moved (total c + 1) (linksAnswered c call (now (links .entry))) (record { links = now (links .exit); answer = r }) ⌝ }
 {
     let told = set_told(c, links, call);

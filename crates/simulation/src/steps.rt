@@ -1,9 +1,11 @@
-// The sequencing calls on the tables of a judged model: refusal 3 by the operands' kinds, or the procedure. Runs use these too.
+// The sequencing calls on the tables of a judged model: refusal 3 by the operands' kinds, of wait 10 by the set's room, or the procedure. Runs
+// use these too.
 use model::Counts;
 use model::Refusal;
 use model::answer::Answer;
 use ring::wide;
 use simset::procedures::precede;
+use simset::room::no_room;
 use simset::steps::head_or_none;
 use simulation_axis::first;
 use simulation_axis::lone;
@@ -17,10 +19,12 @@ ghost use Rattle.ring_laws.specs.Table.{Sound};
 ghost use Rattle.model.specs.Counts.{isProcess, total};
 ghost use Rattle.model_laws.specs.Now.{half};
 ghost use Rattle.simset_laws.specs.Calls.{orNone};
+ghost use Rattle.simset_laws.specs.BoundLaws.{Covers};
 ghost use Rattle.simulation_laws.specs.Plain.{timedNeed};
 ghost use Rattle.simulation_laws.specs.Calls.{yPlace, holdStep, passivateStep, cancelStep, timedStep, finishStep, waitStep};
 ghost use Rattle.simulation_laws.specs.Promise.{sqs, Answers, Judged, Takeable, Noticed};
-ghost use Rattle.simulation_laws.specs.StepPromise.{FinishMade, WaitMade};
+ghost use Rattle.simulation_laws.specs.StepPromise.{FinishMade};
+ghost use Rattle.simulation_laws.specs.WaitPromise.{WaitEntered};
 
 // A process, or none.
 pub fn process_or_none(c: Counts, x: u32) -> bool
@@ -161,22 +165,33 @@ pub fn current_link(c: Counts, f: u32) -> u32
     c.heads + f
 }
 
-pub fn wait(c: Counts, links: &mut [u32], axis: &mut [u32], times: &mut [u64], y: u32) -> Answer
+pub fn wait(
+    c: Counts,
+    links: &mut [u32],
+    axis: &mut [u32],
+    times: &mut [u64],
+    y: u32,
+    bounds: &mut [u32],
+) -> Answer
     requires { ⌜ Takeable c (now axis) (now times) ⌝ }
     requires { ⌜ Sound (total c + 1) (now links) ⌝ }
-    ensures { λ r. ⌜ WaitMade c (waitStep c y (now (links .entry)) (sqs (now (axis .entry)) (now (times .entry)))) (now (links .exit))
-        (now (axis .exit)) (now (times .exit)) r ⌝ }
+    requires { ⌜ Covers c 0 (now links) (now bounds) ⌝ }
+    ensures { λ r. ⌜ WaitEntered c (now (links .entry)) (waitStep c y (now (links .entry)) (sqs (now (axis .entry)) (now (times .entry))))
+        (now (links .exit)) (now (axis .exit)) (now (times .exit)) (now (bounds .exit)) r ⌝ }
 {
     let ok = head_or_none(c, y);
     if !ok {
         return Answer::Refused(Refusal::Operand);
     }
     let m = wide(c.processes) + 2;
+    let f = first(axis, m);
+    let x = current_link(c, f);
+    if no_room(c, links, x, y, bounds) {
+        return Answer::Refused(Refusal::Full);
+    }
     if lone(axis, m) {
         return Answer::Refused(Refusal::NoNotice);
     }
-    let f = first(axis, m);
-    let x = current_link(c, f);
     precede(links, c.total() + 1, x, y);
     drop_first(axis, m, times, f);
     Answer::Done

@@ -59,6 +59,7 @@ module _ (c : Counts) (M : Lists) (t : Tables) (sp : Spells c M t) where
   respell l a k s =
       record {
         links = sp .links;
+        limited = sp .limited;
         axis = s .axis;
         times = s .times;
         marks = sp .marks;

@@ -19,7 +19,7 @@ use Rattle.model_laws.specs.Tables.{Tables, Lists, Spells}
 use Rattle.model_laws.specs.Now.{first, current, half, firstOf, nextPlace}
 use Rattle.model_laws.specs.Result.{done, refused}
 use Rattle.simset_laws.specs.Calls.{orNone}
-use Rattle.simset_laws.specs.Sets.{precedeSets}
+use Rattle.simset_laws.specs.Sets.{precedeSets, exceeds}
 use Rattle.simset_laws.specs.Plain.{withSets}
 use Rattle.simulation_laws.specs.Choice.{and-left, and-right}
 use Rattle.simulation_laws.specs.NoticeOps.{dropped, hasNotice, rest}
@@ -172,6 +172,7 @@ module _ (c : Counts) (M : Lists) (t : Tables) (sp : Spells c M t) (n : Notice) 
             refl,
             record {
               links = sp .links;
+              limited = sp .limited;
               axis = r .axis;
               times = r .times;
               marks = rw (first-is c n (k ∷ ks) (sqsOf t) s) (marks-set (n .who) (process-first c n (k ∷ ks) (sqsOf t) s));
@@ -196,8 +197,8 @@ module _ (c : Counts) (M : Lists) (t : Tables) (sp : Spells c M t) (n : Notice) 
       go (k ∷ ks) s = clash (sym (lone-no c n k ks (sqsOf t) s) ∙ l)
 
   -- t is what `into` left, M the machine with its sets
-  pub wait-agrees : (y : ℕ) (M₀ : Lists) → orNone (isHead c y) y ≡ true → M ≡ withSets M₀ (precedeSets (current M₀) y (M₀ .sets))
-      → Agrees c t (wait c y M₀) (passivated (half c) (sqsOf t))
+  pub wait-agrees : (y : ℕ) (M₀ : Lists) → orNone (isHead c y) y ≡ true → exceeds (precedeSets (current M₀) y (M₀ .sets)) ≡ false
+      → M ≡ withSets M₀ (precedeSets (current M₀) y (M₀ .sets)) → Agrees c t (wait c y M₀) (passivated (half c) (sqsOf t))
   unfolding wait passivate
-  wait-agrees y M₀ g q = rw g (subst (λ (k : Lists). Agrees c t (leaving k (rest (k .notices))) (passivated (half c) (sqsOf t))) q
+  wait-agrees y M₀ g room q = rw (g, room) (subst (λ (k : Lists). Agrees c t (leaving k (rest (k .notices))) (passivated (half c) (sqsOf t))) q
       (passivate-agrees c M t sp n ns e))

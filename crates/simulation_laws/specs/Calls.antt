@@ -1,4 +1,4 @@
--- The sequencing calls on judged tables: refusal 3 by the operands, else the published procedure with its refusals 4, 5 and 6.
+-- The sequencing calls on judged tables: refusal 3 by the operands, of wait 10, else the published procedure with its refusals 4, 5 and 6.
 use Prim.Native.Nat.{ℕ, _+_, _-_}
 use mathlib.Core.Bool.{Bool}
 use mathlib.Core.List.{List}
@@ -7,7 +7,7 @@ use lib.IntN.{ℤ}
 use lib.ListN.{getD}
 use Rattle.ring_laws.specs.Lists.{if_then_else_}
 use Rattle.model.specs.declared.Counts.{Counts}
-use Rattle.model.specs.declared.Refusal.the-variants.{Operand, NoNotice, Idle}
+use Rattle.model.specs.declared.Refusal.the-variants.{Operand, NoNotice, Idle, Full}
 use Rattle.model.specs.Counts.{total, isHead, isProcess, placeOf, linkageAt}
 use Rattle.model.specs.declared.answer.Answer.{Answer}
 use Rattle.model.specs.declared.answer.Answer.the-variants.{Linkage, Number, Truth, Refused}
@@ -15,7 +15,8 @@ use Rattle.model_laws.specs.Tables.{Tables, After, modelOf}
 use Rattle.model_laws.specs.Now.{half, timeOf, firstOf}
 use Rattle.simset_laws.specs.Calls.{orNone, toldIf}
 use Rattle.simset_laws.specs.Procedures.{preceded}
-use Rattle.simset_laws.specs.Told.{headAt}
+use Rattle.simset_laws.specs.Full.{fullFor}
+use Rattle.simset_laws.specs.Walk.{headAt}
 use Rattle.simulation_laws.specs.Plain.{above, timedNeed}
 use Rattle.simulation_laws.specs.Procedures.{Sqs, Outcome, made, turnedDown, nextOn, idleAt, lone, dropOn, held, passivated}
 use Rattle.simulation_laws.specs.Procedures.{cancelled, finishedMarks, activated}
@@ -59,7 +60,8 @@ pub record Waited : Type 0 where
 unfoldable pub waitStep : Counts → ℕ → List ℕ → Sqs → Waited
 waitStep c y links a =
     if orNone (isHead c y) y then
-    (if lone (half c) a then record { links = links; outcome = turnedDown NoNotice a }
+    (if fullFor c (linkageAt c (firstOf (half c) (a .axis))) y links then record { links = links; outcome = turnedDown Full a }
+    else if lone (half c) a then record { links = links; outcome = turnedDown NoNotice a }
     else record {
       links = preceded (total c + 1) (linkageAt c (firstOf (half c) (a .axis))) y links;
       outcome = made (dropOn (half c) (firstOf (half c) (a .axis)) a);

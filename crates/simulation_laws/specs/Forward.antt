@@ -16,8 +16,8 @@ use Rattle.model_laws.specs.Tables.{Lists}
 use Rattle.model_laws.specs.Result.{need, done, refused, Result}
 use Rattle.model_laws.specs.Now.{time, current}
 use Rattle.simset_laws.specs.Calls.{orNone}
-use Rattle.simset_laws.specs.Sets.{precedeSets}
-use Rattle.simset_laws.specs.Plain.{withSets}
+use Rattle.simset_laws.specs.Sets.{precedeSets, exceeds}
+use Rattle.simset_laws.specs.Plain.{withSets, unlessFull}
 use Rattle.simulation_laws.specs.NoticeOps.{behindAll, dropped, hasNotice, rest}
 use Rattle.simulation_laws.specs.Plain.{withNotices, withTerminated, above, leaving, upTo, hold, passivate, wait, cancel, finish}
 use Rattle.simulation_laws.specs.Plain.{dueFor, placed, noEffect, timedNeed, timed}
@@ -40,6 +40,10 @@ leaving-later t l (n ∷ ns) f = f .0
 need-later : (t : ℕ) (b : Bool) (r : Result Lists) → Later t r → Later t (need b r)
 need-later t true r f = f
 need-later t false r f = tt
+
+unless-later : (t : ℕ) (b : Bool) (r : Result Lists) → Later t r → Later t (unlessFull b r)
+unless-later t true r f = tt
+unless-later t false r f = f
 
 upto-later : (t u : ℕ) (r : Result Lists) → Later t r → Later t (upTo u r)
 upto-later t u r f = test (leb u limit) (λ e. rw e f) (λ e. rw e tt)
@@ -106,7 +110,8 @@ module _ (l : Lists) (n : Notice) (ns : List Notice) (e : l .notices ≡ n ∷ n
   unfolding wait
   wait-forward c y =
       need-later (time l) (orNone (isHead c y) y) _
-      (leaving-later (time l) (withSets l (precedeSets (current l) y (l .sets))) (rest (l .notices)) rest-from)
+      (unless-later (time l) (exceeds (precedeSets (current l) y (l .sets))) _
+      (leaving-later (time l) (withSets l (precedeSets (current l) y (l .sets))) (rest (l .notices)) rest-from))
 
   -- the new notice is due from the present on, if Y has a notice where the clause uses it
   due-forward : (k y : ℕ) (z : ℤ) → (5 ≤ k → In y (whos (l .notices))) → time l ≤ dueFor k y z l

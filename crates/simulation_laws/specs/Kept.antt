@@ -9,12 +9,13 @@ use Rattle.ring_laws.specs.Lists.{if_then_else_, test, clash}
 use Rattle.model.specs.declared.Counts.{Counts}
 use Rattle.model.specs.declared.Refusal.{Refusal}
 use Rattle.model.specs.declared.Refusal.the-variants.{Operand, NoNotice, TimeLimit}
-use Rattle.model.specs.Counts.{limit, isHead, isProcess, placeOf}
+use Rattle.model.specs.Counts.{limit, isHead, isProcess, placeOf, linkageAt}
 use Rattle.model.specs.declared.answer.Answer.the-variants.{Refused}
 use Rattle.model_laws.specs.Now.{half, firstOf, timeOf}
 use Rattle.model_laws.specs.Result.{KeepsRefused}
 use Rattle.model_laws.specs.Tables.{modelOf}
 use Rattle.simset_laws.specs.Calls.{orNone}
+use Rattle.simset_laws.specs.Full.{fullFor}
 use Rattle.simulation_laws.specs.Plain.{above, timedNeed}
 use Rattle.simulation_laws.specs.Procedures.{Sqs, Outcome, made, turnedDown, idleAt, lone, dropOn, heldTo, held, passivated}
 use Rattle.simulation_laws.specs.Procedures.{cancelled, vain, dueAt, putByClause, activated, finishedMarks}
@@ -109,5 +110,7 @@ module _ (c : Counts) where
   unfolding waitStep
   wait-steps y t r =
       test (orNone (isHead c y) y)
-      (λ q. rw q (test (lone (half c) (sqsOf t)) (λ h. rw h (λ e. refl)) (λ h. rw h (λ e. let z : false ≡ true = cc in clash z))))
+      (λ q. rw q (test (fullFor c (linkageAt c (firstOf (half c) (t .axis))) y (t .links))
+      (λ f. rw f (λ e. refl))
+      (λ f. rw f (test (lone (half c) (sqsOf t)) (λ h. rw h (λ e. refl)) (λ h. rw h (λ e. let z : false ≡ true = cc in clash z))))))
       (λ q. rw q (λ e. refl))

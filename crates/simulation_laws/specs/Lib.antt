@@ -25,6 +25,7 @@ pub mod PlacedLaws
 pub mod Replace
 pub mod AgreeTimed
 pub mod StepPromise
+pub mod WaitPromise
 pub mod ReadPromise
 pub mod Meaning
 pub mod ActivateLaws

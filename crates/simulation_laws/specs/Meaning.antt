@@ -1,7 +1,7 @@
 -- What each sequencing call means, for every well-formed model: refused with the plain call's refusal and nothing changed, or done, and
 -- the tables spell the lists that the plain call leaves.
 use Prim.Native.Nat.{ℕ, _+_, _-_, _<_}
-use mathlib.Core.Path.{_≡_, refl, sym, ap, subst}
+use mathlib.Core.Path.{_≡_, refl, sym, ap, subst, _∙_}
 use mathlib.Core.Logic.{_≢_}
 use mathlib.Core.Bool.{Bool, true, false, not, _&&_, _||_}
 use mathlib.Core.List.{List}
@@ -15,14 +15,14 @@ use Rattle.model.specs.declared.Refusal.the-variants.{Operand, NoNotice}
 use Rattle.model.specs.Counts.{total, main, isHead, isProcess, isLink}
 use Rattle.model.specs.declared.answer.Answer.the-variants.{Done, Linkage, Refused}
 use Rattle.model_laws.specs.Notices.{Notice}
-use Rattle.model_laws.specs.Tables.{Tables, Lists, Sized, Spells, modelOf}
+use Rattle.model_laws.specs.Tables.{Tables, Lists, Sized, Spells, modelOf, SpellsSets}
 use Rattle.model_laws.specs.Formed.{notice-process}
 use Rattle.model_laws.specs.Called.{called}
 use Rattle.model_laws.specs.NowLaws.{Split, splits}
 use Rattle.model_laws.specs.Now.{first, current, firstOf, half}
 use Rattle.model_laws.specs.Result.{Follows, done, refused, Result}
 use Rattle.simset_laws.specs.Calls.{orNone}
-use Rattle.simset_laws.specs.Sets.{precedeSets}
+use Rattle.simset_laws.specs.Sets.{precedeSets, exceeds}
 use Rattle.simset_laws.specs.Procedures.{preceded}
 use Rattle.simset_laws.specs.Promise.{none-or, head-in}
 use Rattle.simset_laws.specs.Laws.{sets-preceded}
@@ -30,6 +30,9 @@ use Rattle.simset_laws.specs.Meaning.{called-is, link-of}
 use Rattle.simset_laws.specs.Plain.{withSets}
 use Rattle.simset_laws.specs.Told.{headOf}
 use Rattle.simset_laws.specs.HeadLaws.{head-says}
+use Rattle.simset_laws.specs.Full.{fullFor}
+use Rattle.simset_laws.specs.SizeLaws.{puts-ahead, not-exceeding}
+use Rattle.simset_laws.specs.FullLaws.{full-says}
 use Rattle.simulation_laws.specs.Plain.{above, hold, passivate, wait, cancel, finish, timedNeed, timed}
 use Rattle.simulation_laws.specs.Procedures.{Sqs, made, turnedDown, lone, dropOn, passivated, activated}
 use Rattle.simulation_laws.specs.Calls.{sqsOf, Marked, holdStep, passivateStep, cancelStep, timedStep, finishStep, waitStep, onSqs}
@@ -137,14 +140,6 @@ module _ (c : Counts) (l : Lists) (t : Tables) (w : Sized c t) (s : Spells c l t
   unfolding waitStep wait
   wait-off y g = rw g (refl, refl)
 
-  wait-lone : (y : ℕ) → orNone (isHead c y) y ≡ true → lone (half c) (sqsOf t) ≡ true
-      → Follows c t (wait c y l) (onSets (λ k a. waitStep c y k a) t)
-  unfolding waitStep wait
-  wait-lone y g q =
-      rw (g, q)
-      (subst (λ (r : Result Lists). Follows c t r (record { tables = t; answer = Refused NoNotice }))
-      (sym (lone-leaves c l t s (sp .head) (sp .rest) (sp .is) (withSets l (precedeSets (current l) y (l .sets))) q)) (refl, refl))
-
   current-link : isLink c (current l) ≡ true
   current-link =
       rw (current-is, lt-ltb (c .heads) (sp .head .who) (first-process .over))
@@ -153,15 +148,43 @@ module _ (c : Counts) (l : Lists) (t : Tables) (w : Sized c t) (s : Spells c l t
   here : c .heads + firstOf (half c) (t .axis) ≡ current l
   here = omega (arith, place-first, current-is, first-process)
 
-  -- current is a link, and goes into the set of y
-  entered : (y : ℕ) → orNone (isHead c y) y ≡ true
-      → Spells c (withSets l (precedeSets (current l) y (l .sets)))
-      (modelOf (preceded (total c + 1) (current l) y (t .links)) (t .axis) (t .times) (t .marks))
-  entered y g =
+  abbrev waiting : ℕ → List (List ℕ)
+  waiting y = precedeSets (current l) y (l .sets)
+
+  -- current is a link, and goes into the set of y,
+  put-in : (y : ℕ) → orNone (isHead c y) y ≡ true
+      → SpellsSets (total c + 1) (c .heads) (waiting y) (preceded (total c + 1) (current l) y (t .links))
+  put-in y g =
+      sets-preceded (total c + 1) (c .heads) (l .sets) (t .links) (s .links) (omega arith) (current l)
+      (link-of c (current l) current-link) y (none-or (isHead c y) y (total c) (head-in c y) g)
+
+  -- unless that is full
+  full-is : (y : ℕ) → orNone (isHead c y) y ≡ true
+      → fullFor c (c .heads + firstOf (half c) (t .axis)) y (t .links) ≡ exceeds (waiting y)
+  full-is y g =
+      rw here
+      (full-says c (l .sets) (t .links) (s .links) (s .limited) (current l) (link-of c (current l) current-link) y
+      (none-or (isHead c y) y (total c) (head-in c y) g) _ (puts-ahead (current l) y) _ (put-in y g))
+
+  wait-full : (y : ℕ) → orNone (isHead c y) y ≡ true → exceeds (waiting y) ≡ true
+      → Follows c t (wait c y l) (onSets (λ k a. waitStep c y k a) t)
+  unfolding waitStep wait
+  wait-full y g f = rw (g, full-is y g ∙ f, f) (refl, refl)
+
+  wait-lone : (y : ℕ) → orNone (isHead c y) y ≡ true → exceeds (waiting y) ≡ false → lone (half c) (sqsOf t) ≡ true
+      → Follows c t (wait c y l) (onSets (λ k a. waitStep c y k a) t)
+  unfolding waitStep wait
+  wait-lone y g f q =
+      rw (g, full-is y g ∙ f, f, q)
+      (subst (λ (r : Result Lists). Follows c t r (record { tables = t; answer = Refused NoNotice }))
+      (sym (lone-leaves c l t s (sp .head) (sp .rest) (sp .is) (withSets l (waiting y)) q)) (refl, refl))
+
+  entered : (y : ℕ) → orNone (isHead c y) y ≡ true → exceeds (waiting y) ≡ false
+      → Spells c (withSets l (waiting y)) (modelOf (preceded (total c + 1) (current l) y (t .links)) (t .axis) (t .times) (t .marks))
+  entered y g f =
       record {
-        links = sets-preceded (total c + 1) (c .heads) (l .sets) (t .links) (s .links) (omega arith) (current l)
-            (link-of c (current l) current-link) y
-            (none-or (isHead c y) y (total c) (head-in c y) g);
+        links = put-in y g;
+        limited = not-exceeding (waiting y) f;
         axis = s .axis;
         times = s .times;
         marks = s .marks;
@@ -171,13 +194,13 @@ module _ (c : Counts) (l : Lists) (t : Tables) (w : Sized c t) (s : Spells c l t
         ended = s .ended;
       }
 
-  wait-on : (y : ℕ) → orNone (isHead c y) y ≡ true → lone (half c) (sqsOf t) ≡ false
+  wait-on : (y : ℕ) → orNone (isHead c y) y ≡ true → exceeds (waiting y) ≡ false → lone (half c) (sqsOf t) ≡ false
       → Follows c t (wait c y l) (onSets (λ k a. waitStep c y k a) t)
   unfolding waitStep passivated
-  wait-on y g q =
+  wait-on y g f q =
       let u : Tables = modelOf (preceded (total c + 1) (current l) y (t .links)) (t .axis) (t .times) (t .marks) in
-      let a = wait-agrees c (withSets l (precedeSets (current l) y (l .sets))) u (entered y g) (sp .head) (sp .rest) (sp .is) y l g refl in
-      rw (g, q, here) (waited (wait c y l) (rw q at a))
+      let a = wait-agrees c (withSets l (waiting y)) u (entered y g f) (sp .head) (sp .rest) (sp .is) y l g f refl in
+      rw (g, full-is y g ∙ f, q, here) (waited (wait c y l) (rw q at a))
     where
       waited : (r : Result Lists)
           → Agrees c (modelOf (preceded (total c + 1) (current l) y (t .links)) (t .axis) (t .times) (t .marks)) r
@@ -224,5 +247,6 @@ module _ (c : Counts) (l : Lists) (t : Tables) (w : Sized c t) (s : Spells c l t
   wait-means y =
       rw (called-is c l t w s (onSets (λ k a. waitStep c y k a)))
       (test (orNone (isHead c y) y)
-      (λ g. test (lone (half c) (sqsOf t)) (wait-lone y g) (wait-on y g))
+      (λ g. test (exceeds (waiting y)) (wait-full y g)
+      (λ f. test (lone (half c) (sqsOf t)) (wait-lone y g f) (wait-on y g f)))
       (wait-off y))

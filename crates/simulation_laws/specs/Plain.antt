@@ -13,9 +13,9 @@ use Rattle.model_laws.specs.Notices.{Notice, dueOf}
 use Rattle.model_laws.specs.Tables.{Lists}
 use Rattle.model_laws.specs.Now.{current, time}
 use Rattle.model_laws.specs.Result.{Result, refused, done, need}
-use Rattle.simset_laws.specs.Sets.{precedeSets}
+use Rattle.simset_laws.specs.Sets.{precedeSets, exceeds}
 use Rattle.simset_laws.specs.Calls.{orNone}
-use Rattle.simset_laws.specs.Plain.{withSets}
+use Rattle.simset_laws.specs.Plain.{withSets, unlessFull}
 use Rattle.simulation_laws.specs.NoticeOps.{behindAll, frontAll, before, after, dropped, hasNotice, rest}
 
 abbrev pub withNotices : Lists → List Notice → Lists
@@ -48,9 +48,11 @@ hold t l =
 unfoldable pub passivate : Lists → Result Lists
 passivate l = leaving l (rest (l .notices))
 
--- "wait does into for current first"
+-- "wait does into for current first"; refusal 10 comes "ahead of 4"
 unfoldable pub wait : Counts → ℕ → Lists → Result Lists
-wait c y l = need (orNone (isHead c y) y) (leaving (withSets l (precedeSets (current l) y (l .sets))) (rest (l .notices)))
+wait c y l =
+    let k = precedeSets (current l) y (l .sets) in
+    need (orNone (isHead c y) y) (unlessFull (exceeds k) (leaving (withSets l k) (rest (l .notices))))
 
 -- "Cancel deletes x's notice"
 unfoldable pub cancel : Counts → ℕ → Lists → Result Lists

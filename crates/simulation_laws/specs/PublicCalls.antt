@@ -18,8 +18,9 @@ use Rattle.model_laws.specs.Tables.{Tables, Lists, After, membersOf}
 use Rattle.model_laws.specs.Called.{answering}
 use Rattle.model_laws.specs.Result.{Result, need}
 use Rattle.model_laws.specs.Now.{current, time}
-use Rattle.simset_laws.specs.Sets.{sucSets, predSets, noLinks}
+use Rattle.simset_laws.specs.Sets.{precedeSets, exceeds, sucSets, predSets, noLinks}
 use Rattle.simset_laws.specs.Calls.{orNone, toldIf, firstTold, lastTold, sucTold, predTold, emptyTold, cardinalTold}
+use Rattle.simset_laws.specs.Plain.{unlessFull}
 use Rattle.simset_laws.specs.Told.{headOf}
 use Rattle.simulation_laws.specs.NoticeOps.{hasNotice}
 use Rattle.simulation_laws.specs.Plain.{timedNeed}
@@ -79,7 +80,8 @@ sequencingCall c Finish l = plain.finish c l
 unfoldable pub publishedCall : Counts → SequencingCall → Lists → Result Lists
 publishedCall c (Hold z) l = published.hold z l
 publishedCall c Passivate l = published.passivate l
-publishedCall c (Wait y) l = need (orNone (isHead c y) y) (published.wait y l)
+publishedCall c (Wait y) l =
+    need (orNone (isHead c y) y) (unlessFull (exceeds (precedeSets (current l) y (l .sets))) (published.wait y l))
 publishedCall c (Cancel x) l = need (orNone (isProcess c x) x) (published.cancel x l)
 publishedCall c (Activate k x y z) l = need (timedNeed c k x y) (ACTIVATE false x (clauseCode k) z y (clausePrior k) l)
 publishedCall c (Reactivate k x y z) l = need (timedNeed c k x y) (ACTIVATE true x (clauseCode k) z y (clausePrior k) l)

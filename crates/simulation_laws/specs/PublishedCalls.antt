@@ -24,8 +24,8 @@ use Rattle.model_laws.specs.Result.{Follows, need, done, Result}
 use Rattle.model_laws.specs.NowLaws.{Split, splits}
 use Rattle.model_laws.specs.Now.{time, current}
 use Rattle.simset_laws.specs.Calls.{orNone}
-use Rattle.simset_laws.specs.Sets.{precedeSets}
-use Rattle.simset_laws.specs.Plain.{withSets}
+use Rattle.simset_laws.specs.Sets.{precedeSets, exceeds}
+use Rattle.simset_laws.specs.Plain.{withSets, unlessFull}
 use Rattle.simulation_laws.specs.NoticeOps.{behindAll, dropped, hasNotice, rest}
 use Rattle.simulation_laws.specs.NoticeLaws.{drop-old, drop-none, rest-drop}
 use Rattle.simulation_laws.specs.AgreeEnds.{has-none}
@@ -67,11 +67,13 @@ module _ (l : Lists) (n : Notice) (ns : List Notice) (e : l .notices ≡ n ∷ n
   unfolding published.passivate plain.passivate
   passivate-is = error-is l (dropped (current l) (l .notices)) ∙ ap (leaving l) out-is
 
-  pub wait-is : (c : Counts) (y : ℕ) → need (orNone (isHead c y) y) (published.wait y l) ≡ plain.wait c y l
+  pub wait-is : (c : Counts) (y : ℕ)
+      → need (orNone (isHead c y) y) (unlessFull (exceeds (precedeSets (current l) y (l .sets))) (published.wait y l)) ≡ plain.wait c y l
   unfolding published.wait published.passivate plain.wait
   wait-is c y =
       let k : Lists = withSets l (precedeSets (current l) y (l .sets)) in
-      ap (need (orNone (isHead c y) y)) (error-is k (dropped (current l) (l .notices)) ∙ ap (leaving k) out-is)
+      ap (λ (r : Result Lists). need (orNone (isHead c y) y) (unlessFull (exceeds (k .sets)) r))
+      (error-is k (dropped (current l) (l .notices)) ∙ ap (leaving k) out-is)
 
   pub finish-is : (c : Counts) → need (not (eqb (current l) (main c))) (published.terminate l) ≡ plain.finish c l
   unfolding published.terminate published.passivate plain.finish
@@ -135,7 +137,8 @@ module _ (c : Counts) (l : Lists) (t : Tables) (w : Sized c t) (s : Spells c l t
   passivate-leaves = leaves _ _ _ (passivate-is l (sp .head) (sp .rest) (sp .is) o d) (passivate-means c l t w s)
 
   pub wait-leaves : (y : ℕ)
-      → Follows c t (need (orNone (isHead c y) y) (published.wait y l)) (called c (onSets (λ k a. waitStep c y k a)) t)
+      → Follows c t (need (orNone (isHead c y) y) (unlessFull (exceeds (precedeSets (current l) y (l .sets))) (published.wait y l)))
+      (called c (onSets (λ k a. waitStep c y k a)) t)
   wait-leaves y = leaves _ _ _ (wait-is l (sp .head) (sp .rest) (sp .is) o d c y) (wait-means c l t w s y)
 
   pub cancel-leaves : (x : ℕ)

@@ -19,7 +19,7 @@ use Rattle.model.specs.declared.answer.Answer.{Answer}
 use Rattle.model.specs.declared.answer.Answer.the-variants.{Linkage, Number, Truth, Refused}
 use Rattle.model_laws.specs.Now.{half, firstOf, nextPlace, idleOn}
 use Rattle.model_laws.specs.Tables.{modelOf}
-use Rattle.simset_laws.specs.Told.{headAt}
+use Rattle.simset_laws.specs.Walk.{headAt}
 use Rattle.simulation_laws.specs.Procedures.{Sqs, Outcome}
 use Rattle.simulation_laws.specs.Calls.{Marked, Waited, onSqs, onMarks, onSets, currentTold, timeTold, idleTold, evtimeTold}
 use Rattle.simulation_laws.specs.Calls.{nextevTold, waitTold}

@@ -8,20 +8,19 @@ use native.Mathlib.Omega.{arith}
 use lib.Dec.{leb, ltb}
 use borrow.Author.Tests.{eq-eqb, ne-eqb, le-leb, lt-leb, leb-true, not-true, not-false}
 use Rattle.ring_laws.specs.Lists.{if_then_else_, test, clash}
-use Rattle.ring_laws.specs.Table.{Sound, Made}
+use Rattle.ring_laws.specs.Table.{Sound}
 use Rattle.model.specs.declared.Counts.{Counts}
-use Rattle.model.specs.declared.Refusal.the-variants.{Operand, NoNotice}
-use Rattle.model.specs.Counts.{total, isHead, isProcess, placeOf, both}
+use Rattle.model.specs.declared.Refusal.the-variants.{Operand}
+use Rattle.model.specs.Counts.{total, isProcess, placeOf, both}
 use Rattle.model.specs.declared.answer.Answer.{Answer}
-use Rattle.model.specs.declared.answer.Answer.the-variants.{Done, Refused}
+use Rattle.model.specs.declared.answer.Answer.the-variants.{Refused}
 use Rattle.model_laws.specs.Now.{AxisSound, half, firstOf}
 use Rattle.simset_laws.specs.Calls.{orNone}
-use Rattle.simset_laws.specs.Procedures.{preceded}
 use Rattle.simset_laws.specs.Promise.{none-or}
 use Rattle.simulation_laws.specs.Plain.{timedNeed}
-use Rattle.simulation_laws.specs.Procedures.{Sqs, Outcome, made, turnedDown, dropOn, passivated, finishedMarks}
-use Rattle.simulation_laws.specs.Calls.{yPlace, Marked, Waited, finishStep, waitStep}
-use Rattle.simulation_laws.specs.Promise.{sqs, Left, Answers, AnswersMarked, Place, Lone, Judged}
+use Rattle.simulation_laws.specs.Procedures.{Outcome, turnedDown, passivated, finishedMarks}
+use Rattle.simulation_laws.specs.Calls.{yPlace, Marked, Waited, finishStep}
+use Rattle.simulation_laws.specs.Promise.{sqs, Answers, AnswersMarked, Place, Judged}
 
 pub record FinishMade (c : Counts) (want : Marked) (axis times marks : List ℕ) (r : Answer) : Type 0 where
   pub is : record { outcome = record { answer = r; left = sqs axis times }; marks = marks } ≡ want
@@ -111,31 +110,3 @@ module _ (c : Counts) (axis times marks : List ℕ) (f : ℕ) (p : Place (half c
 -- the first notice is a process's
 pub first-low : (c : Counts) (axis : List ℕ) → Judged c axis → (f : ℕ) → Place (half c) (firstOf (half c) axis) f → f ≤ c .processes
 first-low c axis j f p = omega (arith, j .first-in, p .is)
-
--- ---- wait
-
-module _ (c : Counts) (y : ℕ) (links axis times : List ℕ) where
-  pub wait-3 : Sound (total c + 1) links → AxisSound (half c) axis → orNone (isHead c y) y ≡ false
-      → WaitMade c (waitStep c y links (sqs axis times)) links axis times (Refused Operand)
-  unfolding waitStep
-  wait-3 sl s e = record { is = rw e; links-sound = sl; sound = s }
-
-  module _ (e : orNone (isHead c y) y ≡ true) (b : Bool) (l : Lone (half c) axis b) where
-    pub wait-4 : Sound (total c + 1) links → AxisSound (half c) axis → b ≡ true
-        → WaitMade c (waitStep c y links (sqs axis times)) links axis times (Refused NoNotice)
-    unfolding waitStep
-    wait-4 sl s q = record { is = rw (e, sym (l .is) ∙ q); links-sound = sl; sound = s }
-
-    pub wait-0 : (f x : ℕ) (k a t : List ℕ) → b ≡ false → Place (half c) (firstOf (half c) axis) f → x ≡ c .heads + f
-        → Made (total c + 1) (preceded (total c + 1) x y links) k → Left (half c) (dropOn (half c) f (sqs axis times)) a t
-        → WaitMade c (waitStep c y links (sqs axis times)) k a t Done
-    unfolding waitStep
-    wait-0 f x k a t q p ex mk lf =
-        record {
-          is =
-              rw (e, sym (l .is) ∙ q, ← (p .is))
-              (ap₂ (λ (i : List ℕ) (o : Sqs). record { links = i; outcome = made o })
-              (mk .is ∙ ap (λ (j : ℕ). preceded (total c + 1) j y links) ex) (lf .is));
-          links-sound = mk .sound;
-          sound = lf .sound;
-        }

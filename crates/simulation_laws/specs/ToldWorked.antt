@@ -20,6 +20,7 @@ use Rattle.simset_laws.specs.Told.{headTold, setAnswered}
 use Rattle.simset_laws.specs.ToldWorked.{same, left, answered}
 use Rattle.simulation_laws.specs.Plain.{dueFor, placed, noEffect, timed, wait}
 use Rattle.simulation_laws.specs.Procedures.{seekFrom, found, dropOn, putOn, vain, dueAt, placeFor, putByClause, activated}
+use Rattle.simset_laws.specs.Full.{fullFor}
 use Rattle.simulation_laws.specs.Calls.{timedStep, waitStep, waitTold}
 use Rattle.simulation_laws.specs.PublicCalls.{sequencingAnswered, sequencingTells, sequencingCall}
 
@@ -51,6 +52,6 @@ pub wait-each : waits 2 entered enteredLists (Linkage 1)
     && waits 2 started startedLists (Linkage 0)
     && waits 1 (freshTables c) (freshLists c) (Refused NoNotice) ≡ true
 unfolding freshHeads freshAxis freshTables selfLinked unlinked linkedBehind linkedBefore precedeOn preceded intoStep firstFrom headTold
-    dueFor placed noEffect timed wait seekFrom found dropOn putOn vain dueAt placeFor putByClause activated timedStep waitStep waitTold
+    dueFor placed noEffect timed wait seekFrom found dropOn putOn vain dueAt placeFor putByClause activated timedStep waitStep waitTold fullFor
     sequencingCall
 wait-each = refl

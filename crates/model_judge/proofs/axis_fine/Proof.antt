@@ -40,6 +40,9 @@ add-rings-fine-2 c = search needs
 add-rings-fine-3 : tie.Need-add-rings-fine-3
 add-rings-fine-3 c = search needs
 
+add-rings-fine-4 : tie.Need-add-rings-fine-4
+add-rings-fine-4 c = search needs
+
 rings-fine-requires : tie.Need-rings-fine-requires
 rings-fine-requires c κs = search needs
 
@@ -81,6 +84,7 @@ axis-fine-spec =
     add-rings-fine
     add-rings-fine-2
     add-rings-fine-3
+    add-rings-fine-4
     rings-fine-requires
     returns-3
     add-wide

@@ -18,7 +18,7 @@ enum-told : tie.Need-enum-told
 enum-told c = search needs
 
 set-answer-requires : tie.Need-set-answer-requires
-set-answer-requires c κs = judged-ready _ _ (sym (c .before .before .before .judge-tables .ensures) ∙ c .before .enum-told .given .1) .links-sound
+set-answer-requires c κs = let r = judged-ready _ _ (sym (c .before .before .before .judge-tables .ensures) ∙ c .before .enum-told .given .1) in (r .links-sound, r .allowed)
 
 same-length : tie.Need-same-length
 same-length c = search needs

@@ -1,4 +1,5 @@
-use Rattle.run_laws.specs.Arms.{arm-2, arm-3, arm-5, arm-7, arm-9, arm-timed}
+use Rattle.simset_laws.specs.Entering.{covers-clear-step}
+use Rattle.run_laws.specs.Arms.{arm-2, arm-3, arm-5, arm-7, arm-9, arm-timed-as}
 use Rattle.run_laws.specs.Tried.{left-apart}
 use Rattle.run_laws.specs.Performing.{judged, takeable, x-readable, y-readable, some, most}
 use mathlib.Core.Path.{sym, _∙_}
@@ -48,23 +49,44 @@ after-cancel-of x = x
 abbrev at-match-rest : tie.At-match-rest → tie.At-match-rest
 at-match-rest x = x
 
+abbrev after-unless-refused : tie.After-unless-refused → tie.After-unless-refused
+after-unless-refused x = x
+
+abbrev after-unless-refused2 : tie.After-unless-refused2 → tie.After-unless-refused2
+after-unless-refused2 x = x
+
+abbrev after-unless-refused3 : tie.After-unless-refused3 → tie.After-unless-refused3
+after-unless-refused3 x = x
+
+abbrev after-unless-refused4 : tie.After-unless-refused4 → tie.After-unless-refused4
+after-unless-refused4 x = x
+
+abbrev after-unless-refused5 : tie.After-unless-refused5 → tie.After-unless-refused5
+after-unless-refused5 x = x
+
+abbrev after-unless-refused6 : tie.After-unless-refused6 → tie.After-unless-refused6
+after-unless-refused6 x = x
+
+abbrev after-timed-of : tie.After-timed-of → tie.After-timed-of
+after-timed-of x = x
+
 operation-at-requires : tie.Need-operation-at-requires
 operation-at-requires c κs = start (search) .pre .0 .inside
 
 follow-of-requires : tie.Need-follow-of-requires
-follow-of-requires c κs = (x-readable _ _ _ _ _ (start (search) .pre .0) _ (c .before .before .operation-at .ensures) (λ z. omega (arith, c .before .match .keys1)), y-readable _ _ _ _ _ (start (search) .pre .0) _ (c .before .before .operation-at .ensures) (λ z. omega (arith, c .before .match .keys1)))
+follow-of-requires c κs = (x-readable _ _ _ _ _ (start (search) .pre .0) _ (after-operation-at (search) .operation-at .ensures) (λ z. omega (arith, at-match-keys1 (search) .match .keys1)), (y-readable _ _ _ _ _ (start (search) .pre .0) _ (after-operation-at (search) .operation-at .ensures) (λ z. omega (arith, at-match-keys1 (search) .match .keys1)), start (search) .pre .1 .1))
 
 unless-refused-requires : tie.Need-unless-refused-requires
 unless-refused-requires c κs = search needs
 
 precede-of-requires : tie.Need-precede-of-requires
-precede-of-requires c κs = (x-readable _ _ _ _ _ (start (search) .pre .0) _ (c .before .before .operation-at .ensures) (λ z. omega (arith, c .before .match .keys2)), y-readable _ _ _ _ _ (start (search) .pre .0) _ (c .before .before .operation-at .ensures) (λ z. omega (arith, c .before .match .keys2)))
+precede-of-requires c κs = (x-readable _ _ _ _ _ (start (search) .pre .0) _ (after-operation-at (search) .operation-at .ensures) (λ z. omega (arith, at-match-keys2 (search) .match .keys2)), (y-readable _ _ _ _ _ (start (search) .pre .0) _ (after-operation-at (search) .operation-at .ensures) (λ z. omega (arith, at-match-keys2 (search) .match .keys2)), start (search) .pre .1 .1))
 
 unless-refused-requires-2 : tie.Need-unless-refused-requires-2
 unless-refused-requires-2 c κs = search needs
 
 clear-of-requires : tie.Need-clear-of-requires
-clear-of-requires c κs = x-readable _ _ _ _ _ (start (search) .pre .0) _ (c .before .before .operation-at .ensures) (λ z. omega (arith, c .before .match .keys3))
+clear-of-requires c κs = x-readable _ _ _ _ _ (start (search) .pre .0) _ (after-operation-at (search) .operation-at .ensures) (λ z. omega (arith, at-match-keys3 (search) .match .keys3))
 
 unless-refused-requires-3 : tie.Need-unless-refused-requires-3
 unless-refused-requires-3 c κs = search needs
@@ -82,7 +104,7 @@ unless-refused-requires-5 : tie.Need-unless-refused-requires-5
 unless-refused-requires-5 c κs = search needs
 
 timed-of-requires : tie.Need-timed-of-requires
-timed-of-requires c κs = (x-readable _ _ _ _ _ (start (search) .pre .0) _ (after-operation-at (search) .operation-at .ensures) (λ z. omega (arith, z, left-apart (recordFrom (start (search) .args .sheet .now) (start (search) .args .i)) _ (after-operation-at (search) .operation-at .ensures) (start (search) .pre .1) (some _ _ _ _ _ (start (search) .pre .0) _ (after-operation-at (search) .operation-at .ensures)) (most _ _ _ _ _ (start (search) .pre .0) _ (after-operation-at (search) .operation-at .ensures)) (at-match-rest (search) .match .rest .0 .0 .0 .0 .1) (at-match-rest (search) .match .rest .0 .0 .0 .1) (at-match-rest (search) .match .rest .0 .0 .1) (at-match-rest (search) .match .rest .0 .1) (at-match-rest (search) .match .rest .1) .1)), (y-readable _ _ _ _ _ (start (search) .pre .0) _ (after-operation-at (search) .operation-at .ensures) (λ z. omega (arith, z, left-apart (recordFrom (start (search) .args .sheet .now) (start (search) .args .i)) _ (after-operation-at (search) .operation-at .ensures) (start (search) .pre .1) (some _ _ _ _ _ (start (search) .pre .0) _ (after-operation-at (search) .operation-at .ensures)) (most _ _ _ _ _ (start (search) .pre .0) _ (after-operation-at (search) .operation-at .ensures)) (at-match-rest (search) .match .rest .0 .0 .0 .0 .1) (at-match-rest (search) .match .rest .0 .0 .0 .1) (at-match-rest (search) .match .rest .0 .0 .1) (at-match-rest (search) .match .rest .0 .1) (at-match-rest (search) .match .rest .1) .1)), judged _ _ _ _ _ (start (search) .pre .0)))
+timed-of-requires c κs = (x-readable _ _ _ _ _ (start (search) .pre .0) _ (after-operation-at (search) .operation-at .ensures) (λ z. omega (arith, z, left-apart (recordFrom (start (search) .args .sheet .now) (start (search) .args .i)) _ (after-operation-at (search) .operation-at .ensures) (start (search) .pre .1 .0) (some _ _ _ _ _ (start (search) .pre .0) _ (after-operation-at (search) .operation-at .ensures)) (most _ _ _ _ _ (start (search) .pre .0) _ (after-operation-at (search) .operation-at .ensures)) (at-match-rest (search) .match .rest .0 .0 .0 .0 .1) (at-match-rest (search) .match .rest .0 .0 .0 .1) (at-match-rest (search) .match .rest .0 .0 .1) (at-match-rest (search) .match .rest .0 .1) (at-match-rest (search) .match .rest .1) .1)), (y-readable _ _ _ _ _ (start (search) .pre .0) _ (after-operation-at (search) .operation-at .ensures) (λ z. omega (arith, z, left-apart (recordFrom (start (search) .args .sheet .now) (start (search) .args .i)) _ (after-operation-at (search) .operation-at .ensures) (start (search) .pre .1 .0) (some _ _ _ _ _ (start (search) .pre .0) _ (after-operation-at (search) .operation-at .ensures)) (most _ _ _ _ _ (start (search) .pre .0) _ (after-operation-at (search) .operation-at .ensures)) (at-match-rest (search) .match .rest .0 .0 .0 .0 .1) (at-match-rest (search) .match .rest .0 .0 .0 .1) (at-match-rest (search) .match .rest .0 .0 .1) (at-match-rest (search) .match .rest .0 .1) (at-match-rest (search) .match .rest .1) .1)), judged _ _ _ _ _ (start (search) .pre .0)))
 
 unless-refused-requires-6 : tie.Need-unless-refused-requires-6
 unless-refused-requires-6 c κs = search needs
@@ -90,29 +112,26 @@ unless-refused-requires-6 c κs = search needs
 same-length : tie.Need-same-length
 same-length c = search needs
 
-returns : tie.Need-returns
-returns c = λ w. arm-2 (start (search) .args .c) (recordFrom (start (search) .args .sheet .now) (start (search) .args .i)) (start (search) .args .f) (start (search) .args .links .now) (start (search) .args .axis .now) (start (search) .args .times .now) (start (search) .args .marks .now) w _ _ _ (c .unless-refused .ensures) (sym (after-operation-at (search) .operation-at .ensures) ∙ at-match-keys1 (search) .match .keys1) (after-follow-of (search) .follow-of .ensures)
-
 same-length-2 : tie.Need-same-length-2
 same-length-2 c = search needs
 
-returns-2 : tie.Need-returns-2
-returns-2 c = λ w. arm-3 (start (search) .args .c) (recordFrom (start (search) .args .sheet .now) (start (search) .args .i)) (start (search) .args .f) (start (search) .args .links .now) (start (search) .args .axis .now) (start (search) .args .times .now) (start (search) .args .marks .now) w _ _ _ (c .unless-refused2 .ensures) (sym (after-operation-at (search) .operation-at .ensures) ∙ at-match-keys2 (search) .match .keys2) (after-precede-of (search) .precede-of .ensures)
+returns : tie.Need-returns
+returns c = (λ w. arm-2 (start (search) .args .c) (recordFrom (start (search) .args .sheet .now) (start (search) .args .i)) (start (search) .args .f) (start (search) .args .links .now) (start (search) .args .axis .now) (start (search) .args .times .now) (start (search) .args .marks .now) w _ _ _ (after-unless-refused (search) .unless-refused .ensures) (sym (after-operation-at (search) .operation-at .ensures) ∙ at-match-keys1 (search) .match .keys1) (after-follow-of (search) .follow-of .ensures .moved), after-follow-of (search) .follow-of .ensures .covers)
 
 same-length-3 : tie.Need-same-length-3
 same-length-3 c = search needs
 
-returns-3 : tie.Need-returns-3
-returns-3 c = λ w. arm-5 (start (search) .args .c) (recordFrom (start (search) .args .sheet .now) (start (search) .args .i)) (start (search) .args .f) (start (search) .args .links .now) (start (search) .args .axis .now) (start (search) .args .times .now) (start (search) .args .marks .now) w _ _ _ (c .unless-refused3 .ensures) (sym (after-operation-at (search) .operation-at .ensures) ∙ at-match-keys3 (search) .match .keys3) (after-clear-of (search) .clear-of .ensures)
-
 same-length-4 : tie.Need-same-length-4
 same-length-4 c = search needs
+
+returns-2 : tie.Need-returns-2
+returns-2 c = (λ w. arm-3 (start (search) .args .c) (recordFrom (start (search) .args .sheet .now) (start (search) .args .i)) (start (search) .args .f) (start (search) .args .links .now) (start (search) .args .axis .now) (start (search) .args .times .now) (start (search) .args .marks .now) w _ _ _ (after-unless-refused2 (search) .unless-refused2 .ensures) (sym (after-operation-at (search) .operation-at .ensures) ∙ at-match-keys2 (search) .match .keys2) (after-precede-of (search) .precede-of .ensures .moved), after-precede-of (search) .precede-of .ensures .covers)
 
 same-length-5 : tie.Need-same-length-5
 same-length-5 c = search needs
 
-returns-4 : tie.Need-returns-4
-returns-4 c = λ w. arm-7 (start (search) .args .c) (recordFrom (start (search) .args .sheet .now) (start (search) .args .i)) (start (search) .args .f) (start (search) .args .links .now) (start (search) .args .axis .now) (start (search) .args .times .now) (start (search) .args .marks .now) w _ _ _ _ (c .unless-refused4 .ensures) (sym (after-operation-at (search) .operation-at .ensures) ∙ at-match-keys4 (search) .match .keys4) (after-passivate (search) .passivate .ensures)
+returns-3 : tie.Need-returns-3
+returns-3 c = (λ w. arm-5 (start (search) .args .c) (recordFrom (start (search) .args .sheet .now) (start (search) .args .i)) (start (search) .args .f) (start (search) .args .links .now) (start (search) .args .axis .now) (start (search) .args .times .now) (start (search) .args .marks .now) w _ _ _ (after-unless-refused3 (search) .unless-refused3 .ensures) (sym (after-operation-at (search) .operation-at .ensures) ∙ at-match-keys3 (search) .match .keys3) (after-clear-of (search) .clear-of .ensures), λ w. covers-clear-step _ _ _ (start (search) .pre .1 .1) w _ _ (after-clear-of (search) .clear-of .ensures))
 
 same-length-6 : tie.Need-same-length-6
 same-length-6 c = search needs
@@ -120,11 +139,11 @@ same-length-6 c = search needs
 same-length-7 : tie.Need-same-length-7
 same-length-7 c = search needs
 
+returns-4 : tie.Need-returns-4
+returns-4 c = (λ w. arm-7 (start (search) .args .c) (recordFrom (start (search) .args .sheet .now) (start (search) .args .i)) (start (search) .args .f) (start (search) .args .links .now) (start (search) .args .axis .now) (start (search) .args .times .now) (start (search) .args .marks .now) w _ _ _ _ (after-unless-refused4 (search) .unless-refused4 .ensures) (sym (after-operation-at (search) .operation-at .ensures) ∙ at-match-keys4 (search) .match .keys4) (after-passivate (search) .passivate .ensures), λ w. start (search) .pre .1 .1)
+
 same-length-8 : tie.Need-same-length-8
 same-length-8 c = search needs
-
-returns-5 : tie.Need-returns-5
-returns-5 c = λ w. arm-9 (start (search) .args .c) (recordFrom (start (search) .args .sheet .now) (start (search) .args .i)) (start (search) .args .f) (start (search) .args .links .now) (start (search) .args .axis .now) (start (search) .args .times .now) (start (search) .args .marks .now) w _ _ _ _ (c .unless-refused5 .ensures) (sym (after-operation-at (search) .operation-at .ensures) ∙ at-match-keys5 (search) .match .keys5) (after-cancel-of (search) .cancel-of .ensures)
 
 same-length-9 : tie.Need-same-length-9
 same-length-9 c = search needs
@@ -132,11 +151,20 @@ same-length-9 c = search needs
 same-length-10 : tie.Need-same-length-10
 same-length-10 c = search needs
 
+returns-5 : tie.Need-returns-5
+returns-5 c = (λ w. arm-9 (start (search) .args .c) (recordFrom (start (search) .args .sheet .now) (start (search) .args .i)) (start (search) .args .f) (start (search) .args .links .now) (start (search) .args .axis .now) (start (search) .args .times .now) (start (search) .args .marks .now) w _ _ _ _ (after-unless-refused5 (search) .unless-refused5 .ensures) (sym (after-operation-at (search) .operation-at .ensures) ∙ at-match-keys5 (search) .match .keys5) (after-cancel-of (search) .cancel-of .ensures), λ w. start (search) .pre .1 .1)
+
 same-length-11 : tie.Need-same-length-11
 same-length-11 c = search needs
 
+same-length-12 : tie.Need-same-length-12
+same-length-12 c = search needs
+
+same-length-13 : tie.Need-same-length-13
+same-length-13 c = search needs
+
 returns-6 : tie.Need-returns-6
-returns-6 c = λ w. arm-timed (c .before .before .before .before .before .before .before .before .before .before .before .before .before .before .before .before .args .c) (recordFrom (c .before .before .before .before .before .before .before .before .before .before .before .before .before .before .before .before .args .sheet .now) (c .before .before .before .before .before .before .before .before .before .before .before .before .before .before .before .before .args .i)) (c .before .before .before .before .before .before .before .before .before .before .before .before .before .before .before .before .args .f) (c .before .before .before .before .before .before .before .before .before .before .before .before .before .before .before .before .args .links .now) (c .before .before .before .before .before .before .before .before .before .before .before .before .before .before .before .before .args .axis .now) (c .before .before .before .before .before .before .before .before .before .before .before .before .before .before .before .before .args .times .now) (c .before .before .before .before .before .before .before .before .before .before .before .before .before .before .before .before .args .marks .now) w _ _ _ _ (c .unless-refused6 .ensures) (omega (arith, c .before .before .before .before .before .before .before .before .before .before .operation-at .ensures, left-apart (recordFrom (c .before .before .before .before .before .before .before .before .before .before .before .before .before .before .before .before .args .sheet .now) (c .before .before .before .before .before .before .before .before .before .before .before .before .before .before .before .before .args .i)) _ (c .before .before .before .before .before .before .before .before .before .before .operation-at .ensures) (c .before .before .before .before .before .before .before .before .before .before .before .before .before .before .before .before .pre .1) (some _ _ _ _ _ (c .before .before .before .before .before .before .before .before .before .before .before .before .before .before .before .before .pre .0) _ (c .before .before .before .before .before .before .before .before .before .before .operation-at .ensures)) (most _ _ _ _ _ (c .before .before .before .before .before .before .before .before .before .before .before .before .before .before .before .before .pre .0) _ (c .before .before .before .before .before .before .before .before .before .before .operation-at .ensures)) (c .before .before .before .before .before .before .before .before .before .match .rest .0 .0 .0 .0 .1) (c .before .before .before .before .before .before .before .before .before .match .rest .0 .0 .0 .1) (c .before .before .before .before .before .before .before .before .before .match .rest .0 .0 .1) (c .before .before .before .before .before .before .before .before .before .match .rest .0 .1) (c .before .before .before .before .before .before .before .before .before .match .rest .1) .0)) (omega (arith, c .before .before .before .before .before .before .before .before .before .before .operation-at .ensures, left-apart (recordFrom (c .before .before .before .before .before .before .before .before .before .before .before .before .before .before .before .before .args .sheet .now) (c .before .before .before .before .before .before .before .before .before .before .before .before .before .before .before .before .args .i)) _ (c .before .before .before .before .before .before .before .before .before .before .operation-at .ensures) (c .before .before .before .before .before .before .before .before .before .before .before .before .before .before .before .before .pre .1) (some _ _ _ _ _ (c .before .before .before .before .before .before .before .before .before .before .before .before .before .before .before .before .pre .0) _ (c .before .before .before .before .before .before .before .before .before .before .operation-at .ensures)) (most _ _ _ _ _ (c .before .before .before .before .before .before .before .before .before .before .before .before .before .before .before .before .pre .0) _ (c .before .before .before .before .before .before .before .before .before .before .operation-at .ensures)) (c .before .before .before .before .before .before .before .before .before .match .rest .0 .0 .0 .0 .1) (c .before .before .before .before .before .before .before .before .before .match .rest .0 .0 .0 .1) (c .before .before .before .before .before .before .before .before .before .match .rest .0 .0 .1) (c .before .before .before .before .before .before .before .before .before .match .rest .0 .1) (c .before .before .before .before .before .before .before .before .before .match .rest .1) .1)) (rw (c .before .before .before .before .before .before .before .before .before .before .operation-at .ensures) at (c .before .before .before .before .before .timed-of .ensures))
+returns-6 c = (λ w. arm-timed-as (start (search) .args .c) (recordFrom (start (search) .args .sheet .now) (start (search) .args .i)) (start (search) .args .f) (start (search) .args .links .now) (start (search) .args .axis .now) (start (search) .args .times .now) (start (search) .args .marks .now) w _ _ _ _ (after-unless-refused6 (search) .unless-refused6 .ensures) _ (after-operation-at (search) .operation-at .ensures) (omega (arith, after-operation-at (search) .operation-at .ensures, left-apart (recordFrom (start (search) .args .sheet .now) (start (search) .args .i)) _ (after-operation-at (search) .operation-at .ensures) (start (search) .pre .1 .0) (some _ _ _ _ _ (start (search) .pre .0) _ (after-operation-at (search) .operation-at .ensures)) (most _ _ _ _ _ (start (search) .pre .0) _ (after-operation-at (search) .operation-at .ensures)) (at-match-rest (search) .match .rest .0 .0 .0 .0 .1) (at-match-rest (search) .match .rest .0 .0 .0 .1) (at-match-rest (search) .match .rest .0 .0 .1) (at-match-rest (search) .match .rest .0 .1) (at-match-rest (search) .match .rest .1) .0)) (omega (arith, after-operation-at (search) .operation-at .ensures, left-apart (recordFrom (start (search) .args .sheet .now) (start (search) .args .i)) _ (after-operation-at (search) .operation-at .ensures) (start (search) .pre .1 .0) (some _ _ _ _ _ (start (search) .pre .0) _ (after-operation-at (search) .operation-at .ensures)) (most _ _ _ _ _ (start (search) .pre .0) _ (after-operation-at (search) .operation-at .ensures)) (at-match-rest (search) .match .rest .0 .0 .0 .0 .1) (at-match-rest (search) .match .rest .0 .0 .0 .1) (at-match-rest (search) .match .rest .0 .0 .1) (at-match-rest (search) .match .rest .0 .1) (at-match-rest (search) .match .rest .1) .1)) (after-timed-of (search) .timed-of .ensures), λ w. start (search) .pre .1 .1)
 
 pub apart-at-spec : {M : Type 1} → statement M
 apart-at-spec =
@@ -156,19 +184,21 @@ apart-at-spec =
     timed-of-requires
     unless-refused-requires-6
     same-length
-    returns
     same-length-2
-    returns-2
+    returns
     same-length-3
-    returns-3
     same-length-4
+    returns-2
     same-length-5
-    returns-4
+    returns-3
     same-length-6
     same-length-7
+    returns-4
     same-length-8
-    returns-5
     same-length-9
     same-length-10
+    returns-5
     same-length-11
+    same-length-12
+    same-length-13
     returns-6)

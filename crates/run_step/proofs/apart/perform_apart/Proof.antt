@@ -30,6 +30,9 @@ after-record-offset x = x
 abbrev after-apart-at : tie.After-apart-at → tie.After-apart-at
 after-apart-at x = x
 
+abbrev after-unless-refused : tie.After-unless-refused → tie.After-unless-refused
+after-unless-refused x = x
+
 finish-requires : tie.Need-finish-requires
 finish-requires c κs = ready-takeable _ _ (start (search) .pre .1 .0)
 
@@ -46,13 +49,13 @@ same-length-3 : tie.Need-same-length-3
 same-length-3 c = search needs
 
 returns : tie.Need-returns
-returns c = λ w. arm-0 (start (search) .args .c) (recordGot (start (search) .args .c .processes) (start (search) .args .sheet .now) (start (search) .args .r)) (start (search) .args .f) (start (search) .args .links .now) (start (search) .args .axis .now) (start (search) .args .times .now) (start (search) .args .marks .now) w _ _ _ _ (c .unless-refused .ensures) _ (ap (λ (q : Record). q .operation) (sym (got-end _ _ _ (then1 (search) .if1 .taken)))) (after-finish (search) .finish .ensures)
+returns c = (λ w. arm-0 (start (search) .args .c) (recordGot (start (search) .args .c .processes) (start (search) .args .sheet .now) (start (search) .args .r)) (start (search) .args .f) (start (search) .args .links .now) (start (search) .args .axis .now) (start (search) .args .times .now) (start (search) .args .marks .now) w _ _ _ _ (after-unless-refused (search) .unless-refused .ensures) _ (ap (λ (q : Record). q .operation) (sym (got-end _ _ _ (then1 (search) .if1 .taken)))) (after-finish (search) .finish .ensures), λ w. start (search) .pre .1 .1 .1)
 
 record-offset-requires : tie.Need-record-offset-requires
 record-offset-requires c κs = omega (arith, c .if1 .left)
 
 apart-at-requires : tie.Need-apart-at-requires
-apart-at-requires c κs = (rw (after-record-offset (search) .record-offset .ensures) ((start (search) .pre .0) (else1 (search) .if1 .left)), ap apart (record-is (start (search) .args .c) _ _ _ (else1 (search) .if1 .left) (after-record-offset (search) .record-offset .ensures)) ∙ start (search) .pre .1 .1)
+apart-at-requires c κs = (rw (after-record-offset (search) .record-offset .ensures) ((start (search) .pre .0) (else1 (search) .if1 .left)), (ap apart (record-is (start (search) .args .c) _ _ _ (else1 (search) .if1 .left) (after-record-offset (search) .record-offset .ensures)) ∙ start (search) .pre .1 .1 .0, start (search) .pre .1 .1 .1))
 
 same-length-4 : tie.Need-same-length-4
 same-length-4 c = search needs
@@ -66,8 +69,11 @@ same-length-6 c = search needs
 same-length-7 : tie.Need-same-length-7
 same-length-7 c = search needs
 
+same-length-8 : tie.Need-same-length-8
+same-length-8 c = search needs
+
 returns-2 : tie.Need-returns-2
-returns-2 c = λ w. performed-at _ _ _ _ (else1 (search) .if1 .left) (after-record-offset (search) .record-offset .ensures) _ _ w _ (after-apart-at (search) .apart-at .ensures w)
+returns-2 c = (λ w. performed-at _ _ _ _ (else1 (search) .if1 .left) (after-record-offset (search) .record-offset .ensures) _ _ w _ (after-apart-at (search) .apart-at .ensures .0 w), after-apart-at (search) .apart-at .ensures .1)
 
 pub perform-apart-spec : {M : Type 1} → statement M
 perform-apart-spec =
@@ -85,4 +91,5 @@ perform-apart-spec =
     same-length-5
     same-length-6
     same-length-7
+    same-length-8
     returns-2)

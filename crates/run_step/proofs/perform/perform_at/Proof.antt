@@ -1,3 +1,4 @@
+use Rattle.simset_laws.specs.Entering.{covers-out-step}
 use Rattle.run_laws.specs.Arms.{arm-1, arm-4, arm-6, arm-8, arm-12, arm-13}
 use Rattle.run_laws.specs.Tried.{here, left-10, left-other, tried-not, tried-made}
 use Rattle.run_laws.specs.Performing.{takeable, noticed, place-some, x-readable, y-readable, numbered, in-sixty-four}
@@ -60,38 +61,71 @@ after-direct-of x = x
 abbrev at-match-keys7 : tie.At-match-keys7 → tie.At-match-keys7
 at-match-keys7 x = x
 
+abbrev after-unless-refused : tie.After-unless-refused → tie.After-unless-refused
+after-unless-refused x = x
+
+abbrev after-unless-refused2 : tie.After-unless-refused2 → tie.After-unless-refused2
+after-unless-refused2 x = x
+
+abbrev after-unless-refused3 : tie.After-unless-refused3 → tie.After-unless-refused3
+after-unless-refused3 x = x
+
+abbrev after-unless-refused4 : tie.After-unless-refused4 → tie.After-unless-refused4
+after-unless-refused4 x = x
+
+abbrev after-unless-refused5 : tie.After-unless-refused5 → tie.After-unless-refused5
+after-unless-refused5 x = x
+
+abbrev after-accum-of : tie.After-accum-of → tie.After-accum-of
+after-accum-of x = x
+
+abbrev after-branch : tie.After-branch → tie.After-branch
+after-branch x = x
+
+abbrev at-match-keys6 : tie.At-match-keys6 → tie.At-match-keys6
+at-match-keys6 x = x
+
+abbrev at-match-rest : tie.At-match-rest → tie.At-match-rest
+at-match-rest x = x
+
+abbrev else1 : tie.Else1 → tie.Else1
+else1 x = x
+
+abbrev else2 : tie.Else2 → tie.Else2
+else2 x = x
+
 operation-at-requires : tie.Need-operation-at-requires
-operation-at-requires c κs = start (search) .pre .callable .inside
+operation-at-requires c κs = start (search) .pre .0 .callable .inside
 
 out-of-requires : tie.Need-out-of-requires
-out-of-requires c κs = x-readable _ _ _ _ _ (start (search) .pre .callable) _ (c .before .before .operation-at .ensures) (λ z. omega (arith, c .before .match .keys1))
+out-of-requires c κs = x-readable _ _ _ _ _ (start (search) .pre .0 .callable) _ (after-operation-at (search) .operation-at .ensures) (λ z. omega (arith, at-match-keys1 (search) .match .keys1))
 
 unless-refused-requires : tie.Need-unless-refused-requires
 unless-refused-requires c κs = search needs
 
 into-of-requires : tie.Need-into-of-requires
-into-of-requires c κs = (x-readable _ _ _ _ _ (start (search) .pre .callable) _ (c .before .before .operation-at .ensures) (λ z. omega (arith, c .before .match .keys2)), y-readable _ _ _ _ _ (start (search) .pre .callable) _ (c .before .before .operation-at .ensures) (λ z. omega (arith, c .before .match .keys2)))
+into-of-requires c κs = (x-readable _ _ _ _ _ (start (search) .pre .0 .callable) _ (after-operation-at (search) .operation-at .ensures) (λ z. omega (arith, at-match-keys2 (search) .match .keys2)), (y-readable _ _ _ _ _ (start (search) .pre .0 .callable) _ (after-operation-at (search) .operation-at .ensures) (λ z. omega (arith, at-match-keys2 (search) .match .keys2)), start (search) .pre .1))
 
 unless-refused-requires-2 : tie.Need-unless-refused-requires-2
 unless-refused-requires-2 c κs = search needs
 
 hold-of-requires : tie.Need-hold-of-requires
-hold-of-requires c κs = (start (search) .pre .callable .inside, (takeable _ _ _ _ _ (start (search) .pre .callable), noticed _ _ _ _ _ _ _ (start (search) .pre)))
+hold-of-requires c κs = (start (search) .pre .0 .callable .inside, (takeable _ _ _ _ _ (start (search) .pre .0 .callable), noticed _ _ _ _ _ _ _ (start (search) .pre .0)))
 
 unless-refused-requires-3 : tie.Need-unless-refused-requires-3
 unless-refused-requires-3 c κs = search needs
 
 wait-of-requires : tie.Need-wait-of-requires
-wait-of-requires c κs = (y-readable _ _ _ _ _ (start (search) .pre .callable) _ (after-operation-at (search) .operation-at .ensures) (λ z. omega (arith, at-match-keys4 (search) .match .keys4)), takeable _ _ _ _ _ (start (search) .pre .callable))
+wait-of-requires c κs = (y-readable _ _ _ _ _ (start (search) .pre .0 .callable) _ (after-operation-at (search) .operation-at .ensures) (λ z. omega (arith, at-match-keys4 (search) .match .keys4)), (takeable _ _ _ _ _ (start (search) .pre .0 .callable), start (search) .pre .1))
 
 unless-refused-requires-4 : tie.Need-unless-refused-requires-4
 unless-refused-requires-4 c κs = search needs
 
 clause-at-requires : tie.Need-clause-at-requires
-clause-at-requires c κs = start (search) .pre .callable .inside
+clause-at-requires c κs = start (search) .pre .0 .callable .inside
 
 delayed-of-requires : tie.Need-delayed-of-requires
-delayed-of-requires c κs = (start (search) .pre .callable, (noticed _ _ _ _ _ _ _ (start (search) .pre), (sym (after-operation-at (search) .operation-at .ensures) ∙ at-match-keys5 (search) .match .keys5, sym (after-clause-at (search) .clause-at .ensures) ∙ then1 (search) .if1 .taken)))
+delayed-of-requires c κs = (start (search) .pre .0 .callable, (noticed _ _ _ _ _ _ _ (start (search) .pre .0), (sym (after-operation-at (search) .operation-at .ensures) ∙ at-match-keys5 (search) .match .keys5, sym (after-clause-at (search) .clause-at .ensures) ∙ then1 (search) .if1 .taken)))
 
 same-length : tie.Need-same-length
 same-length c = search needs
@@ -103,10 +137,10 @@ same-length-3 : tie.Need-same-length-3
 same-length-3 c = search needs
 
 returns : tie.Need-returns
-returns c = after-delayed-of (search) .delayed-of .ensures _
+returns c = (after-delayed-of (search) .delayed-of .ensures _, λ w. start (search) .pre .1)
 
 direct-of-requires : tie.Need-direct-of-requires
-direct-of-requires c κs = (start (search) .pre .callable, (noticed _ _ _ _ _ _ _ (start (search) .pre), (sym (after-operation-at (search) .operation-at .ensures) ∙ at-match-keys5 (search) .match .keys5, sym (after-clause-at (search) .clause-at .ensures) ∙ then2 (search) .if2 .taken)))
+direct-of-requires c κs = (start (search) .pre .0 .callable, (noticed _ _ _ _ _ _ _ (start (search) .pre .0), (sym (after-operation-at (search) .operation-at .ensures) ∙ at-match-keys5 (search) .match .keys5, sym (after-clause-at (search) .clause-at .ensures) ∙ then2 (search) .if2 .taken)))
 
 same-length-4 : tie.Need-same-length-4
 same-length-4 c = search needs
@@ -118,13 +152,13 @@ same-length-6 : tie.Need-same-length-6
 same-length-6 c = search needs
 
 returns-2 : tie.Need-returns-2
-returns-2 c = after-direct-of (search) .direct-of .ensures _
+returns-2 c = (after-direct-of (search) .direct-of .ensures _, λ w. start (search) .pre .1)
 
 branch-requires : tie.Need-branch-requires
-branch-requires c κs = (x-readable _ _ _ _ _ (start (search) .pre .callable) _ (c .before .before .operation-at .ensures) (λ z. omega (arith, c .before .match .keys6)), place-some _ _ _ _ _ (start (search) .pre .callable))
+branch-requires c κs = (x-readable _ _ _ _ _ (start (search) .pre .0 .callable) _ (after-operation-at (search) .operation-at .ensures) (λ z. omega (arith, at-match-keys6 (search) .match .keys6)), place-some _ _ _ _ _ (start (search) .pre .0 .callable))
 
 accum-of-requires : tie.Need-accum-of-requires
-accum-of-requires c κs = (start (search) .pre .callable .inside, numbered _ _ _ _ _ _ _ (start (search) .pre) _ (c .before .before .operation-at .ensures) (c .before .match .keys7))
+accum-of-requires c κs = (start (search) .pre .0 .callable .inside, numbered _ _ _ _ _ _ _ (start (search) .pre .0) _ (after-operation-at (search) .operation-at .ensures) (at-match-keys7 (search) .match .keys7))
 
 unless-refused-requires-5 : tie.Need-unless-refused-requires-5
 unless-refused-requires-5 c κs = search needs
@@ -133,25 +167,25 @@ same-length-7 : tie.Need-same-length-7
 same-length-7 c = search needs
 
 returns-3 : tie.Need-returns-3
-returns-3 c = tried-made _ _ _ _ _ (here _ (recordFrom (start (search) .args .sheet .now) (start (search) .args .i)) _ _ 1 refl refl (sym (after-operation-at (search) .operation-at .ensures) ∙ at-match-keys1 (search) .match .keys1)) _ (arm-1 (start (search) .args .c) (recordFrom (start (search) .args .sheet .now) (start (search) .args .i)) (start (search) .args .f) (start (search) .args .links .now) (start (search) .args .axis .now) (start (search) .args .times .now) (start (search) .args .marks .now) (start (search) .args .accums .now) _ _ _ (c .unless-refused .ensures) (sym (after-operation-at (search) .operation-at .ensures) ∙ at-match-keys1 (search) .match .keys1) (after-out-of (search) .out-of .ensures))
+returns-3 c = (tried-made _ _ _ _ _ (here _ (recordFrom (start (search) .args .sheet .now) (start (search) .args .i)) _ _ 1 refl refl (sym (after-operation-at (search) .operation-at .ensures) ∙ at-match-keys1 (search) .match .keys1)) _ (arm-1 (start (search) .args .c) (recordFrom (start (search) .args .sheet .now) (start (search) .args .i)) (start (search) .args .f) (start (search) .args .links .now) (start (search) .args .axis .now) (start (search) .args .times .now) (start (search) .args .marks .now) (start (search) .args .accums .now) _ _ _ (after-unless-refused (search) .unless-refused .ensures) (sym (after-operation-at (search) .operation-at .ensures) ∙ at-match-keys1 (search) .match .keys1) (after-out-of (search) .out-of .ensures)), λ w. covers-out-step _ _ _ (start (search) .pre .1) w _ _ (after-out-of (search) .out-of .ensures))
 
 same-length-8 : tie.Need-same-length-8
 same-length-8 c = search needs
 
-returns-4 : tie.Need-returns-4
-returns-4 c = tried-made _ _ _ _ _ (here _ (recordFrom (start (search) .args .sheet .now) (start (search) .args .i)) _ _ 4 refl refl (sym (after-operation-at (search) .operation-at .ensures) ∙ at-match-keys2 (search) .match .keys2)) _ (arm-4 (start (search) .args .c) (recordFrom (start (search) .args .sheet .now) (start (search) .args .i)) (start (search) .args .f) (start (search) .args .links .now) (start (search) .args .axis .now) (start (search) .args .times .now) (start (search) .args .marks .now) (start (search) .args .accums .now) _ _ _ (c .unless-refused2 .ensures) (sym (after-operation-at (search) .operation-at .ensures) ∙ at-match-keys2 (search) .match .keys2) (after-into-of (search) .into-of .ensures))
-
 same-length-9 : tie.Need-same-length-9
 same-length-9 c = search needs
+
+returns-4 : tie.Need-returns-4
+returns-4 c = (tried-made _ _ _ _ _ (here _ (recordFrom (start (search) .args .sheet .now) (start (search) .args .i)) _ _ 4 refl refl (sym (after-operation-at (search) .operation-at .ensures) ∙ at-match-keys2 (search) .match .keys2)) _ (arm-4 (start (search) .args .c) (recordFrom (start (search) .args .sheet .now) (start (search) .args .i)) (start (search) .args .f) (start (search) .args .links .now) (start (search) .args .axis .now) (start (search) .args .times .now) (start (search) .args .marks .now) (start (search) .args .accums .now) _ _ _ (after-unless-refused2 (search) .unless-refused2 .ensures) (sym (after-operation-at (search) .operation-at .ensures) ∙ at-match-keys2 (search) .match .keys2) (after-into-of (search) .into-of .ensures .moved)), after-into-of (search) .into-of .ensures .covers)
 
 same-length-10 : tie.Need-same-length-10
 same-length-10 c = search needs
 
-returns-5 : tie.Need-returns-5
-returns-5 c = tried-made _ _ _ _ _ (here _ (recordFrom (start (search) .args .sheet .now) (start (search) .args .i)) _ _ 6 refl refl (sym (after-operation-at (search) .operation-at .ensures) ∙ at-match-keys3 (search) .match .keys3)) _ (arm-6 (start (search) .args .c) (recordFrom (start (search) .args .sheet .now) (start (search) .args .i)) (start (search) .args .f) (start (search) .args .links .now) (start (search) .args .axis .now) (start (search) .args .times .now) (start (search) .args .marks .now) (start (search) .args .accums .now) _ _ _ _ (c .unless-refused3 .ensures) (sym (after-operation-at (search) .operation-at .ensures) ∙ at-match-keys3 (search) .match .keys3) (after-hold-of (search) .hold-of .ensures))
-
 same-length-11 : tie.Need-same-length-11
 same-length-11 c = search needs
+
+returns-5 : tie.Need-returns-5
+returns-5 c = (tried-made _ _ _ _ _ (here _ (recordFrom (start (search) .args .sheet .now) (start (search) .args .i)) _ _ 6 refl refl (sym (after-operation-at (search) .operation-at .ensures) ∙ at-match-keys3 (search) .match .keys3)) _ (arm-6 (start (search) .args .c) (recordFrom (start (search) .args .sheet .now) (start (search) .args .i)) (start (search) .args .f) (start (search) .args .links .now) (start (search) .args .axis .now) (start (search) .args .times .now) (start (search) .args .marks .now) (start (search) .args .accums .now) _ _ _ _ (after-unless-refused3 (search) .unless-refused3 .ensures) (sym (after-operation-at (search) .operation-at .ensures) ∙ at-match-keys3 (search) .match .keys3) (after-hold-of (search) .hold-of .ensures)), λ w. start (search) .pre .1)
 
 same-length-12 : tie.Need-same-length-12
 same-length-12 c = search needs
@@ -159,26 +193,32 @@ same-length-12 c = search needs
 same-length-13 : tie.Need-same-length-13
 same-length-13 c = search needs
 
-returns-6 : tie.Need-returns-6
-returns-6 c = tried-made _ _ _ _ _ (here _ (recordFrom (start (search) .args .sheet .now) (start (search) .args .i)) _ _ 8 refl refl (sym (after-operation-at (search) .operation-at .ensures) ∙ at-match-keys4 (search) .match .keys4)) _ (arm-8 (start (search) .args .c) (recordFrom (start (search) .args .sheet .now) (start (search) .args .i)) (start (search) .args .f) (start (search) .args .links .now) (start (search) .args .axis .now) (start (search) .args .times .now) (start (search) .args .marks .now) (start (search) .args .accums .now) _ _ _ _ (c .unless-refused4 .ensures) _ (sym (after-operation-at (search) .operation-at .ensures) ∙ at-match-keys4 (search) .match .keys4) (after-wait-of (search) .wait-of .ensures))
-
-returns-7 : tie.Need-returns-7
-returns-7 c = tried-not _ _ _ _ _ (left-10 _ (recordFrom (start (search) .args .sheet .now) (start (search) .args .i)) _ _ (sym (after-operation-at (search) .operation-at .ensures) ∙ at-match-keys5 (search) .match .keys5) (λ z. c .before .if1 .left (c .before .before .clause-at .ensures ∙ z)) (λ z. c .if2 .left (c .before .before .clause-at .ensures ∙ z)))
-
 same-length-14 : tie.Need-same-length-14
 same-length-14 c = search needs
-
-returns-8 : tie.Need-returns-8
-returns-8 c = tried-made _ _ _ _ _ (here _ (recordFrom (start (search) .args .sheet .now) (start (search) .args .i)) _ _ 12 refl refl (sym (after-operation-at (search) .operation-at .ensures) ∙ c .before .before .match .keys6)) _ (arm-12 (start (search) .args .c) (recordFrom (start (search) .args .sheet .now) (start (search) .args .i)) (start (search) .args .f) (start (search) .args .links .now) (start (search) .args .axis .now) (start (search) .args .times .now) (start (search) .args .marks .now) (start (search) .args .accums .now) (sym (after-operation-at (search) .operation-at .ensures) ∙ c .before .before .match .keys6) _ (c .branch .ensures))
 
 same-length-15 : tie.Need-same-length-15
 same-length-15 c = search needs
 
+returns-6 : tie.Need-returns-6
+returns-6 c = (tried-made _ _ _ _ _ (here _ (recordFrom (start (search) .args .sheet .now) (start (search) .args .i)) _ _ 8 refl refl (sym (after-operation-at (search) .operation-at .ensures) ∙ at-match-keys4 (search) .match .keys4)) _ (arm-8 (start (search) .args .c) (recordFrom (start (search) .args .sheet .now) (start (search) .args .i)) (start (search) .args .f) (start (search) .args .links .now) (start (search) .args .axis .now) (start (search) .args .times .now) (start (search) .args .marks .now) (start (search) .args .accums .now) _ _ _ _ (after-unless-refused4 (search) .unless-refused4 .ensures) _ (sym (after-operation-at (search) .operation-at .ensures) ∙ at-match-keys4 (search) .match .keys4) (after-wait-of (search) .wait-of .ensures .waited)), after-wait-of (search) .wait-of .ensures .covers)
+
+returns-7 : tie.Need-returns-7
+returns-7 c = (tried-not _ _ _ _ _ (left-10 _ (recordFrom (start (search) .args .sheet .now) (start (search) .args .i)) _ _ (sym (after-operation-at (search) .operation-at .ensures) ∙ at-match-keys5 (search) .match .keys5) (λ z. else1 (search) .if1 .left (after-clause-at (search) .clause-at .ensures ∙ z)) (λ z. else2 (search) .if2 .left (after-clause-at (search) .clause-at .ensures ∙ z))), λ w. start (search) .pre .1)
+
+same-length-16 : tie.Need-same-length-16
+same-length-16 c = search needs
+
+returns-8 : tie.Need-returns-8
+returns-8 c = (tried-made _ _ _ _ _ (here _ (recordFrom (start (search) .args .sheet .now) (start (search) .args .i)) _ _ 12 refl refl (sym (after-operation-at (search) .operation-at .ensures) ∙ at-match-keys6 (search) .match .keys6)) _ (arm-12 (start (search) .args .c) (recordFrom (start (search) .args .sheet .now) (start (search) .args .i)) (start (search) .args .f) (start (search) .args .links .now) (start (search) .args .axis .now) (start (search) .args .times .now) (start (search) .args .marks .now) (start (search) .args .accums .now) (sym (after-operation-at (search) .operation-at .ensures) ∙ at-match-keys6 (search) .match .keys6) _ (after-branch (search) .branch .ensures)), λ w. start (search) .pre .1)
+
+same-length-17 : tie.Need-same-length-17
+same-length-17 c = search needs
+
 returns-9 : tie.Need-returns-9
-returns-9 c = tried-made _ _ _ _ _ (here _ (recordFrom (start (search) .args .sheet .now) (start (search) .args .i)) _ _ 13 refl refl (sym (after-operation-at (search) .operation-at .ensures) ∙ at-match-keys7 (search) .match .keys7)) _ (arm-13 (start (search) .args .c) (recordFrom (start (search) .args .sheet .now) (start (search) .args .i)) (start (search) .args .f) (start (search) .args .links .now) (start (search) .args .axis .now) (start (search) .args .times .now) (start (search) .args .marks .now) (start (search) .args .accums .now) _ _ (sym (after-operation-at (search) .operation-at .ensures) ∙ at-match-keys7 (search) .match .keys7) (in-sixty-four _ _ _ _ _ _ _ (start (search) .pre) _ (after-operation-at (search) .operation-at .ensures) (at-match-keys7 (search) .match .keys7)) _ (start (search) .pre .time-is) _ (c .before .before .accum-of .ensures) (c .unless-refused5 .ensures))
+returns-9 c = (tried-made _ _ _ _ _ (here _ (recordFrom (start (search) .args .sheet .now) (start (search) .args .i)) _ _ 13 refl refl (sym (after-operation-at (search) .operation-at .ensures) ∙ at-match-keys7 (search) .match .keys7)) _ (arm-13 (start (search) .args .c) (recordFrom (start (search) .args .sheet .now) (start (search) .args .i)) (start (search) .args .f) (start (search) .args .links .now) (start (search) .args .axis .now) (start (search) .args .times .now) (start (search) .args .marks .now) (start (search) .args .accums .now) _ _ (sym (after-operation-at (search) .operation-at .ensures) ∙ at-match-keys7 (search) .match .keys7) (in-sixty-four _ _ _ _ _ _ _ (start (search) .pre .0) _ (after-operation-at (search) .operation-at .ensures) (at-match-keys7 (search) .match .keys7)) _ (start (search) .pre .0 .time-is) _ (after-accum-of (search) .accum-of .ensures) (after-unless-refused5 (search) .unless-refused5 .ensures)), λ w. start (search) .pre .1)
 
 returns-10 : tie.Need-returns-10
-returns-10 c = tried-not _ _ _ _ _ (left-other _ (recordFrom (start (search) .args .sheet .now) (start (search) .args .i)) _ _ _ (c .before .operation-at .ensures) (c .match .rest .0 .0 .0 .0 .0 .0 .1) (c .match .rest .0 .0 .0 .0 .0 .1) (c .match .rest .0 .0 .0 .0 .1) (c .match .rest .0 .0 .0 .1) (c .match .rest .0 .0 .1) (c .match .rest .0 .1) (c .match .rest .1))
+returns-10 c = (tried-not _ _ _ _ _ (left-other _ (recordFrom (start (search) .args .sheet .now) (start (search) .args .i)) _ _ _ (after-operation-at (search) .operation-at .ensures) (at-match-rest (search) .match .rest .0 .0 .0 .0 .0 .0 .1) (at-match-rest (search) .match .rest .0 .0 .0 .0 .0 .1) (at-match-rest (search) .match .rest .0 .0 .0 .0 .1) (at-match-rest (search) .match .rest .0 .0 .0 .1) (at-match-rest (search) .match .rest .0 .0 .1) (at-match-rest (search) .match .rest .0 .1) (at-match-rest (search) .match .rest .1)), λ w. start (search) .pre .1)
 
 pub perform-at-spec : {M : Type 1} → statement M
 perform-at-spec =
@@ -210,17 +250,19 @@ perform-at-spec =
     same-length-7
     returns-3
     same-length-8
-    returns-4
     same-length-9
+    returns-4
     same-length-10
-    returns-5
     same-length-11
+    returns-5
     same-length-12
     same-length-13
+    same-length-14
+    same-length-15
     returns-6
     returns-7
-    same-length-14
+    same-length-16
     returns-8
-    same-length-15
+    same-length-17
     returns-9
     returns-10)

@@ -1,6 +1,8 @@
 use mathlib.Core.Path.{ap}
 use mathlib.Core.Bool.{_||_}
+use Rattle.simset_laws.specs.BoundLaws.{covers-unknown}
 use Rattle.run_laws.specs.declared.Pause.{Pause}
+use Rattle.run_laws.specs.Standing.{allowed}
 use Rattle.run_laws.specs.Paused.{isFull, isDue}
 use Rattle.run_laws.specs.AnyTurn.{any-made, any-refused, any-due}
 use borrow.Author.Needs.{needs}
@@ -22,7 +24,7 @@ abbrev after-turn-apart : tie.After-turn-apart → tie.After-turn-apart
 after-turn-apart x = x
 
 abbrev start-from-accums : tie.After-accums → tie.Start
-start-from-accums x = x .before .before .before .before .before .before .before .before .before .before .before .before .before .before .before .before .before .before .before .before .before .before .before .before
+start-from-accums x = x .before .before .before .before .before .before .before .before .before .before .before .before .before .before .before .before .before .before .before .before .before .before .before .before .before
 
 abbrev stretch-from-accums : tie.After-accums → tie.After-stretch
 stretch-from-accums x = x .before .before .before .before .before .before .before .before .before
@@ -30,8 +32,11 @@ stretch-from-accums x = x .before .before .before .before .before .before .befor
 add-stretch : tie.Need-add-stretch
 add-stretch c = omega (arith, start (search) .pre .1 .0, start (search) .pre .1 .1 .1)
 
+slice-aggregate-stretch : tie.Need-slice-aggregate-stretch
+slice-aggregate-stretch c = search needs
+
 stretch-requires : tie.Need-stretch-requires
-stretch-requires c κs = (start (search) .pre .0, (start (search) .pre .1 .0, (start (search) .pre .1 .1 .0, (omega arith, start (search) .pre .1 .1 .1))))
+stretch-requires c κs = (start (search) .pre .0, (start (search) .pre .1 .0, (start (search) .pre .1 .1 .0, (omega arith, (start (search) .pre .1 .1 .1, covers-unknown (start (search) .args .c) _ (allowed _ _ _ (start (search) .pre .0)))))))
 
 enum-told : tie.Need-enum-told
 enum-told c = search needs
@@ -42,8 +47,11 @@ enum-known-pause c = search needs
 enum-told-2 : tie.Need-enum-told-2
 enum-told-2 c = search needs
 
+slice-aggregate-turn-apart : tie.Need-slice-aggregate-turn-apart
+slice-aggregate-turn-apart c = search needs
+
 turn-apart-requires : tie.Need-turn-apart-requires
-turn-apart-requires c κs = ((after-stretch (search) .stretch .ensures) .stands (ap (λ (q : Pause). isFull q || isDue q) (after-enum-told2 (search) .enum-told2 .given .1)), (omega (arith, (after-stretch (search) .stretch .ensures) .size, start-from-accums (search) .pre .1 .1 .1), (after-stretch (search) .stretch .ensures) .due (ap isDue (after-enum-told2 (search) .enum-told2 .given .1)) .1))
+turn-apart-requires c κs = ((after-stretch (search) .stretch .ensures .0) .stands (ap (λ (q : Pause). isFull q || isDue q) (after-enum-told2 (search) .enum-told2 .given .1)), (omega (arith, (after-stretch (search) .stretch .ensures .0) .size, start-from-accums (search) .pre .1 .1 .1), ((after-stretch (search) .stretch .ensures .0) .due (ap isDue (after-enum-told2 (search) .enum-told2 .given .1)) .1, after-stretch (search) .stretch .ensures .1)))
 
 same-length : tie.Need-same-length
 same-length c = search needs
@@ -67,7 +75,7 @@ same-length-7 : tie.Need-same-length-7
 same-length-7 c = search needs
 
 returns : tie.Need-returns
-returns c = any-made _ _ _ _ (start (search) .pre .1 .1 .0) _ _ _ _ _ (after-stretch (search) .stretch .ensures) (c .enum-told .given .1)
+returns c = any-made _ _ _ _ (start (search) .pre .1 .1 .0) _ _ _ _ _ (after-stretch (search) .stretch .ensures .0) (c .enum-told .given .1)
 
 same-length-8 : tie.Need-same-length-8
 same-length-8 c = search needs
@@ -91,7 +99,7 @@ same-length-14 : tie.Need-same-length-14
 same-length-14 c = search needs
 
 returns-2 : tie.Need-returns-2
-returns-2 c = any-refused _ _ _ _ (start (search) .pre .1 .1 .0) _ _ _ _ _ (after-stretch (search) .stretch .ensures) _ (c .before .pause .given .1)
+returns-2 c = any-refused _ _ _ _ (start (search) .pre .1 .1 .0) _ _ _ _ _ (after-stretch (search) .stretch .ensures .0) _ (c .before .pause .given .1)
 
 same-length-15 : tie.Need-same-length-15
 same-length-15 c = search needs
@@ -115,17 +123,19 @@ same-length-21 : tie.Need-same-length-21
 same-length-21 c = search needs
 
 returns-3 : tie.Need-returns-3
-returns-3 c = any-due _ _ _ _ (start-from-accums (search) .pre .1 .1 .0) _ _ _ _ _ (stretch-from-accums (search) .stretch .ensures) (after-enum-told2 (search) .enum-told2 .given .1) _ (after-turn-apart (search) .turn-apart .ensures)
+returns-3 c = any-due _ _ _ _ (start-from-accums (search) .pre .1 .1 .0) _ _ _ _ _ (stretch-from-accums (search) .stretch .ensures .0) (after-enum-told2 (search) .enum-told2 .given .1) _ (after-turn-apart (search) .turn-apart .ensures .0)
 
 pub turn-spec : {M : Type 1} → statement M
 turn-spec =
     tie.close
     (tie.spec
     add-stretch
+    slice-aggregate-stretch
     stretch-requires
     enum-told
     enum-known-pause
     enum-told-2
+    slice-aggregate-turn-apart
     turn-apart-requires
     same-length
     same-length-2

@@ -1,5 +1,5 @@
 use mathlib.Core.Path.{sym, _∙_}
-use Rattle.run_laws.specs.Standing.{ready, its-judged, in-positions, in-times, number-in}
+use Rattle.run_laws.specs.Standing.{linking, ready, its-judged, in-positions, in-times, number-in}
 use Rattle.run_laws.specs.OneTurn.{turn-callable, turn-apart, turn-finished, turn-refused, turn-made}
 use borrow.Author.Needs.{needs}
 use native.Mathlib.Omega.{arith}
@@ -44,22 +44,22 @@ abbrev after-move-on : tie.After-move-on → tie.After-move-on
 after-move-on x = x
 
 abbrev start-from-perform-apart : tie.After-perform-apart → tie.Start
-start-from-perform-apart x = x .before .before .before .before .before .before .before .before .before .before .before .before .before .before .before .before .before .before .before .before
+start-from-perform-apart x = x .before .before .before .before .before .before .before .before .before .before .before .before .before .before .before .before .before .before .before .before .before .before
 
 abbrev place-now-from-perform-apart : tie.After-perform-apart → tie.After-place-now
-place-now-from-perform-apart x = x .before .before .before .before .before .before .before .before .before .before .before
+place-now-from-perform-apart x = x .before .before .before .before .before .before .before .before .before .before .before .before
 
 abbrev record-of-from-perform-apart : tie.After-perform-apart → tie.After-record-of
-record-of-from-perform-apart x = x .before .before .before .before .before .before .before .before .before
+record-of-from-perform-apart x = x .before .before .before .before .before .before .before .before .before .before
 
 abbrev is-end-from-perform-apart : tie.After-perform-apart → tie.After-is-end
-is-end-from-perform-apart x = x .before .before .before .before .before .before .before .before
+is-end-from-perform-apart x = x .before .before .before .before .before .before .before .before .before
 
 abbrev else1-from-perform-apart : tie.After-perform-apart → tie.Else1
-else1-from-perform-apart x = x .before .before .before .before .before .before .before
+else1-from-perform-apart x = x .before .before .before .before .before .before .before .before
 
 abbrev time-of-from-perform-apart : tie.After-perform-apart → tie.After-time-of
-time-of-from-perform-apart x = x .before .before .before .before .before
+time-of-from-perform-apart x = x .before .before .before .before .before .before
 
 place-now-requires : tie.Need-place-now-requires
 place-now-requires c κs = its-judged _ _ _ (start (search) .pre .0)
@@ -77,13 +77,13 @@ same-length-2 : tie.Need-same-length-2
 same-length-2 c = search needs
 
 returns : tie.Need-returns
-returns c = turn-finished _ _ _ (start (search) .pre .0) _ (after-place-now (search) .place-now .ensures) _ (c .before .before .record-of .ensures) _ _ _ (c .before .is-end .ensures) (c .if1 .taken)
+returns c = (turn-finished _ _ _ (start (search) .pre .0) _ (after-place-now (search) .place-now .ensures) _ (c .before .before .record-of .ensures) _ _ _ (c .before .is-end .ensures) (c .if1 .taken), start (search) .pre .1 .1 .1)
 
 time-of-requires : tie.Need-time-of-requires
 time-of-requires c κs = in-times _ _ _ (start (search) .pre .0) _ (after-place-now (search) .place-now .ensures)
 
 perform-apart-requires : tie.Need-perform-apart-requires
-perform-apart-requires c κs = (λ z. turn-callable _ _ _ (start (search) .pre .0) _ (after-place-now (search) .place-now .ensures) _ (after-record-of (search) .record-of .ensures) _ (after-time-of (search) .time-of .ensures) z .callable, (ready _ _ _ (start (search) .pre .0), turn-apart _ _ _ (start (search) .pre .0) _ (after-place-now (search) .place-now .ensures) _ (after-record-of (search) .record-of .ensures) (start (search) .pre .1 .1)))
+perform-apart-requires c κs = (λ z. turn-callable _ _ _ (start (search) .pre .0) _ (after-place-now (search) .place-now .ensures) _ (after-record-of (search) .record-of .ensures) _ (after-time-of (search) .time-of .ensures) z .callable, (ready _ _ _ (start (search) .pre .0), (turn-apart _ _ _ (start (search) .pre .0) _ (after-place-now (search) .place-now .ensures) _ (after-record-of (search) .record-of .ensures) (start (search) .pre .1 .1 .0), start (search) .pre .1 .1 .1)))
 
 verdict-of-requires : tie.Need-verdict-of-requires
 verdict-of-requires c κs = search needs
@@ -118,11 +118,11 @@ same-length-6 c = search needs
 same-length-7 : tie.Need-same-length-7
 same-length-7 c = search needs
 
-returns-2 : tie.Need-returns-2
-returns-2 c = turn-refused _ _ _ (start-from-perform-apart (search) .pre .0) _ (after-place-now (search) .place-now .ensures) _ (after-record-of (search) .record-of .ensures) _ _ _ (after-is-end (search) .is-end .ensures) (else1 (search) .if1 .left) _ (after-time-of (search) .time-of .ensures) _ (after-perform-apart (search) .perform-apart .ensures _) _ (sym (c .before .q .given .1) ∙ after-verdict-of (search) .verdict-of .ensures)
-
 same-length-8 : tie.Need-same-length-8
 same-length-8 c = search needs
+
+returns-2 : tie.Need-returns-2
+returns-2 c = (turn-refused _ _ _ (start-from-perform-apart (search) .pre .0) _ (after-place-now (search) .place-now .ensures) _ (after-record-of (search) .record-of .ensures) _ _ _ (after-is-end (search) .is-end .ensures) (else1 (search) .if1 .left) _ (after-time-of (search) .time-of .ensures) _ (after-perform-apart (search) .perform-apart .ensures .0 _) _ (sym (c .before .q .given .1) ∙ after-verdict-of (search) .verdict-of .ensures), after-perform-apart (search) .perform-apart .ensures .1 (linking _ _ _ (start-from-perform-apart (search) .pre .0)))
 
 same-length-9 : tie.Need-same-length-9
 same-length-9 c = search needs
@@ -139,8 +139,14 @@ same-length-12 c = search needs
 same-length-13 : tie.Need-same-length-13
 same-length-13 c = search needs
 
+same-length-14 : tie.Need-same-length-14
+same-length-14 c = search needs
+
+same-length-15 : tie.Need-same-length-15
+same-length-15 c = search needs
+
 returns-3 : tie.Need-returns-3
-returns-3 c = turn-made _ _ _ (start-from-perform-apart (search) .pre .0) _ (place-now-from-perform-apart (search) .place-now .ensures) _ (record-of-from-perform-apart (search) .record-of .ensures) _ _ _ (is-end-from-perform-apart (search) .is-end .ensures) (else1-from-perform-apart (search) .if1 .left) _ (time-of-from-perform-apart (search) .time-of .ensures) _ (after-perform-apart (search) .perform-apart .ensures _) (sym (after-enum-told (search) .enum-told .given .1) ∙ after-verdict-of (search) .verdict-of .ensures) _ _ (after-next-of (search) .next-of .ensures) (after-goes-to (search) .goes-to .ensures) _ _ (after-move-on (search) .move-on .ensures)
+returns-3 c = (turn-made _ _ _ (start-from-perform-apart (search) .pre .0) _ (place-now-from-perform-apart (search) .place-now .ensures) _ (record-of-from-perform-apart (search) .record-of .ensures) _ _ _ (is-end-from-perform-apart (search) .is-end .ensures) (else1-from-perform-apart (search) .if1 .left) _ (time-of-from-perform-apart (search) .time-of .ensures) _ (after-perform-apart (search) .perform-apart .ensures .0 _) (sym (after-enum-told (search) .enum-told .given .1) ∙ after-verdict-of (search) .verdict-of .ensures) _ _ (after-next-of (search) .next-of .ensures) (after-goes-to (search) .goes-to .ensures) _ _ (after-move-on (search) .move-on .ensures), after-perform-apart (search) .perform-apart .ensures .1 (linking _ _ _ (start-from-perform-apart (search) .pre .0)))
 
 pub turn-apart-spec : {M : Type 1} → statement M
 turn-apart-spec =
@@ -165,11 +171,13 @@ turn-apart-spec =
     same-length-5
     same-length-6
     same-length-7
-    returns-2
     same-length-8
+    returns-2
     same-length-9
     same-length-10
     same-length-11
     same-length-12
     same-length-13
+    same-length-14
+    same-length-15
     returns-3)

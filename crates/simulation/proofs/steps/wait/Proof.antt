@@ -1,13 +1,11 @@
 use Rattle.simulation_laws.specs.Promise.{first-at}
-use Rattle.simset_laws.specs.Promise.{failed, passed, none-or, head-in}
-use Rattle.simulation_laws.specs.StepPromise.{wait-3, wait-4, wait-0, first-low}
+use Rattle.simset_laws.specs.Promise.{failed, passed, none-or, head-in, link-in, preceded-at}
+use Rattle.simulation_laws.specs.StepPromise.{first-low}
+use Rattle.simulation_laws.specs.WaitPromise.{place-at, lone-at, left-at, wait-3, wait-10, wait-4, wait-0, current-link}
 use borrow.Author.Needs.{needs}
 use native.Mathlib.Omega.{arith}
 use Rattle.simulation.proofs.steps.wait.Statement.{statement}
 use Rattle.simulation.proofs.steps.wait.Tie as tie
-
-head-or-none-requires : tie.Need-head-or-none-requires
-head-or-none-requires c κs = search needs
 
 -- The places that the answers look back to: `search` finds each by its type.
 abbrev start : tie.Start → tie.Start
@@ -15,6 +13,9 @@ start x = x
 
 abbrev after-head-or-none : tie.After-head-or-none → tie.After-head-or-none
 after-head-or-none x = x
+
+abbrev then1 : tie.Then1 → tie.Then1
+then1 x = x
 
 abbrev else1 : tie.Else1 → tie.Else1
 else1 x = x
@@ -25,8 +26,41 @@ after-wide x = x
 abbrev after-first : tie.After-first → tie.After-first
 after-first x = x
 
+abbrev after-current-link : tie.After-current-link → tie.After-current-link
+after-current-link x = x
+
+abbrev after-no-room : tie.After-no-room → tie.After-no-room
+after-no-room x = x
+
+abbrev then2 : tie.Then2 → tie.Then2
+then2 x = x
+
+abbrev else2 : tie.Else2 → tie.Else2
+else2 x = x
+
+abbrev after-lone : tie.After-lone → tie.After-lone
+after-lone x = x
+
+abbrev then3 : tie.Then3 → tie.Then3
+then3 x = x
+
+abbrev else3 : tie.Else3 → tie.Else3
+else3 x = x
+
+abbrev after-total : tie.After-total → tie.After-total
+after-total x = x
+
+abbrev after-precede : tie.After-precede → tie.After-precede
+after-precede x = x
+
+abbrev after-drop-first : tie.After-drop-first → tie.After-drop-first
+after-drop-first x = x
+
+head-or-none-requires : tie.Need-head-or-none-requires
+head-or-none-requires c κs = search needs
+
 returns : tie.Need-returns
-returns c = wait-3 (start (search) .args .c) (start (search) .args .y) _ _ _ (start (search) .pre .1) (start (search) .pre .0 .judged .sound) (failed _ _ (c .before .head-or-none .ensures) (c .if1 .taken))
+returns c = wait-3 (start (search) .args .c) (start (search) .args .y) _ _ _ _ (start (search) .pre .1 .0) (start (search) .pre .0 .judged .sound) (start (search) .pre .1 .1) (failed _ _ (after-head-or-none (search) .head-or-none .ensures) (then1 (search) .if1 .taken))
 
 wide-requires : tie.Need-wide-requires
 wide-requires c κs = search needs
@@ -34,20 +68,41 @@ wide-requires c κs = search needs
 add-m : tie.Need-add-m
 add-m c = search needs
 
-lone-requires : tie.Need-lone-requires
-lone-requires c κs = rw (c .before .wide .ensures) (start (search) .pre .0 .judged .sound)
-
-same-length : tie.Need-same-length
-same-length c = search needs
-
-returns-2 : tie.Need-returns-2
-returns-2 c = wait-4 (start (search) .args .c) (start (search) .args .y) _ _ _ (passed _ _ (after-head-or-none (search) .head-or-none .ensures) (else1 (search) .if1 .left)) _ (rw (after-wide (search) .wide .ensures) at (c .before .lone .ensures)) (start (search) .pre .1) (start (search) .pre .0 .judged .sound) (c .if2 .taken)
-
 first-requires : tie.Need-first-requires
 first-requires c κs = rw (after-wide (search) .wide .ensures) (start (search) .pre .0 .judged .sound)
 
 current-link-requires : tie.Need-current-link-requires
-current-link-requires c κs = (start (search) .pre .0 .judged .allowed .heads-in, omega (arith, start (search) .pre .0 .judged .allowed .processes-in, first-low (start (search) .args .c) _ (start (search) .pre .0 .judged) _ (rw (after-wide (search) .wide .ensures) at (c .first .ensures))))
+current-link-requires c κs = (start (search) .pre .0 .judged .allowed .heads-in, omega (arith, start (search) .pre .0 .judged .allowed .processes-in, first-low (start (search) .args .c) _ (start (search) .pre .0 .judged) _ (place-at (start (search) .args .c) (start (search) .args .axis .now) _ (after-wide (search) .wide .ensures) _ (after-first (search) .first .ensures))))
+
+no-room-requires : tie.Need-no-room-requires
+no-room-requires c κs = (start (search) .pre .1 .0, ((link-in (start (search) .args .c) _ (current-link (start (search) .args .c) _ (start (search) .pre .0 .judged) _ _ (place-at (start (search) .args .c) (start (search) .args .axis .now) _ (after-wide (search) .wide .ensures) _ (after-first (search) .first .ensures)) (after-current-link (search) .current-link .ensures)), none-or _ (start (search) .args .y) _ (head-in (start (search) .args .c) (start (search) .args .y)) (passed _ _ (after-head-or-none (search) .head-or-none .ensures) (else1 (search) .if1 .left))), start (search) .pre .1 .1))
+
+same-length : tie.Need-same-length
+same-length c = search needs
+
+same-length-2 : tie.Need-same-length-2
+same-length-2 c = search needs
+
+same-length-3 : tie.Need-same-length-3
+same-length-3 c = search needs
+
+returns-2 : tie.Need-returns-2
+returns-2 c = wait-10 (start (search) .args .c) (start (search) .args .y) _ _ _ _ (start (search) .pre .1 .0) (passed _ _ (after-head-or-none (search) .head-or-none .ensures) (else1 (search) .if1 .left)) (start (search) .pre .0 .judged) _ _ (place-at (start (search) .args .c) (start (search) .args .axis .now) _ (after-wide (search) .wide .ensures) _ (after-first (search) .first .ensures)) (after-current-link (search) .current-link .ensures) _ (after-no-room (search) .no-room .ensures) (then2 (search) .if2 .taken)
+
+lone-requires : tie.Need-lone-requires
+lone-requires c κs = rw (after-wide (search) .wide .ensures) (start (search) .pre .0 .judged .sound)
+
+same-length-4 : tie.Need-same-length-4
+same-length-4 c = search needs
+
+same-length-5 : tie.Need-same-length-5
+same-length-5 c = search needs
+
+same-length-6 : tie.Need-same-length-6
+same-length-6 c = search needs
+
+returns-3 : tie.Need-returns-3
+returns-3 c = wait-4 (start (search) .args .c) (start (search) .args .y) _ _ _ _ (start (search) .pre .1 .0) (passed _ _ (after-head-or-none (search) .head-or-none .ensures) (else1 (search) .if1 .left)) (start (search) .pre .0 .judged) _ _ (place-at (start (search) .args .c) (start (search) .args .axis .now) _ (after-wide (search) .wide .ensures) _ (after-first (search) .first .ensures)) (after-current-link (search) .current-link .ensures) _ (after-no-room (search) .no-room .ensures) (else2 (search) .if2 .left) _ (lone-at (start (search) .args .c) (start (search) .args .axis .now) _ (after-wide (search) .wide .ensures) _ (after-lone (search) .lone .ensures)) (then3 (search) .if3 .taken)
 
 total-requires : tie.Need-total-requires
 total-requires c κs = search needs
@@ -56,22 +111,25 @@ add-precede : tie.Need-add-precede
 add-precede c = search needs
 
 precede-requires : tie.Need-precede-requires
-precede-requires c κs = (rw (c .total .ensures) (c .before .before .before .before .before .before .before .before .before .before .before .before .before .before .pre .1), (omega (arith, c .total .ensures, c .before .before .current-link .ensures, first-low (c .before .before .before .before .before .before .before .before .before .before .before .before .before .before .args .c) _ (c .before .before .before .before .before .before .before .before .before .before .before .before .before .before .pre .0 .judged) _ (rw (c .before .before .before .before .before .before .before .before .wide .ensures) at (c .before .before .before .first .ensures))), omega (arith, c .total .ensures, none-or _ (c .before .before .before .before .before .before .before .before .before .before .before .before .before .before .args .y) _ (head-in (c .before .before .before .before .before .before .before .before .before .before .before .before .before .before .args .c) (c .before .before .before .before .before .before .before .before .before .before .before .before .before .before .args .y)) (passed _ _ (c .before .before .before .before .before .before .before .before .before .before .head-or-none .ensures) (c .before .before .before .before .before .before .before .before .before .if1 .left)))))
+precede-requires c κs = (rw (after-total (search) .total .ensures) (start (search) .pre .1 .0), (omega (arith, after-total (search) .total .ensures, link-in (start (search) .args .c) _ (current-link (start (search) .args .c) _ (start (search) .pre .0 .judged) _ _ (place-at (start (search) .args .c) (start (search) .args .axis .now) _ (after-wide (search) .wide .ensures) _ (after-first (search) .first .ensures)) (after-current-link (search) .current-link .ensures))), omega (arith, after-total (search) .total .ensures, none-or _ (start (search) .args .y) _ (head-in (start (search) .args .c) (start (search) .args .y)) (passed _ _ (after-head-or-none (search) .head-or-none .ensures) (else1 (search) .if1 .left)))))
 
 drop-first-requires : tie.Need-drop-first-requires
-drop-first-requires c κs = (rw ((after-wide (search) .wide .ensures)) ((start (search) .pre .0 .judged .sound)), first-at _ _ _ _ (rw ((after-wide (search) .wide .ensures)) ((start (search) .pre .0 .first-led))) (after-first (search) .first .ensures))
+drop-first-requires c κs = (rw (after-wide (search) .wide .ensures) (start (search) .pre .0 .judged .sound), first-at _ _ _ _ (rw (after-wide (search) .wide .ensures) (start (search) .pre .0 .first-led)) (after-first (search) .first .ensures))
 
-same-length-2 : tie.Need-same-length-2
-same-length-2 c = search needs
+same-length-7 : tie.Need-same-length-7
+same-length-7 c = search needs
 
-same-length-3 : tie.Need-same-length-3
-same-length-3 c = search needs
+same-length-8 : tie.Need-same-length-8
+same-length-8 c = search needs
 
-same-length-4 : tie.Need-same-length-4
-same-length-4 c = search needs
+same-length-9 : tie.Need-same-length-9
+same-length-9 c = search needs
 
-returns-3 : tie.Need-returns-3
-returns-3 c = wait-0 (c .before .before .before .before .before .before .before .before .before .before .before .before .before .before .before .before .before .before .before .before .before .before .before .before .args .c) (c .before .before .before .before .before .before .before .before .before .before .before .before .before .before .before .before .before .before .before .before .before .before .before .before .args .y) _ _ _ (passed _ _ (c .before .before .before .before .before .before .before .before .before .before .before .before .before .before .before .before .before .before .before .before .head-or-none .ensures) (c .before .before .before .before .before .before .before .before .before .before .before .before .before .before .before .before .before .before .before .if1 .left)) _ (rw (c .before .before .before .before .before .before .before .before .before .before .before .before .before .before .before .before .before .before .wide .ensures) at (c .before .before .before .before .before .before .before .before .before .before .before .before .before .before .before .before .lone .ensures)) _ _ _ _ _ (c .before .before .before .before .before .before .before .before .before .before .before .before .before .before .before .if2 .left) (rw (c .before .before .before .before .before .before .before .before .before .before .before .before .before .before .before .before .before .before .wide .ensures) at (c .before .before .before .before .before .before .before .before .before .before .before .before .before .first .ensures)) (c .before .before .before .before .before .before .before .before .before .before .before .before .current-link .ensures) (rw (c .before .before .before .before .before .before .before .before .before .before .total .ensures) at (c .before .before .before .before .before .before .before .before .before .precede .ensures)) (rw (c .before .before .before .before .before .before .before .before .before .before .before .before .before .before .before .before .before .before .wide .ensures) at (c .before .before .before .before .drop-first .ensures))
+same-length-10 : tie.Need-same-length-10
+same-length-10 c = search needs
+
+returns-4 : tie.Need-returns-4
+returns-4 c = wait-0 (start (search) .args .c) (start (search) .args .y) _ _ _ _ (start (search) .pre .1 .0) (passed _ _ (after-head-or-none (search) .head-or-none .ensures) (else1 (search) .if1 .left)) (start (search) .pre .0 .judged) _ _ (place-at (start (search) .args .c) (start (search) .args .axis .now) _ (after-wide (search) .wide .ensures) _ (after-first (search) .first .ensures)) (after-current-link (search) .current-link .ensures) _ (after-no-room (search) .no-room .ensures) (else2 (search) .if2 .left) _ (lone-at (start (search) .args .c) (start (search) .args .axis .now) _ (after-wide (search) .wide .ensures) _ (after-lone (search) .lone .ensures)) _ _ _ (else3 (search) .if3 .left) (preceded-at _ _ _ _ _ _ (after-total (search) .total .ensures) (after-precede (search) .precede .ensures)) (left-at (start (search) .args .c) (start (search) .args .axis .now) _ (after-wide (search) .wide .ensures) _ (start (search) .args .times .now) _ _ (after-drop-first (search) .drop-first .ensures))
 
 pub wait-spec : {M : Type 1} → statement M
 wait-spec =
@@ -81,16 +139,24 @@ wait-spec =
     returns
     wide-requires
     add-m
-    lone-requires
-    same-length
-    returns-2
     first-requires
     current-link-requires
+    no-room-requires
+    same-length
+    same-length-2
+    same-length-3
+    returns-2
+    lone-requires
+    same-length-4
+    same-length-5
+    same-length-6
+    returns-3
     total-requires
     add-precede
     precede-requires
     drop-first-requires
-    same-length-2
-    same-length-3
-    same-length-4
-    returns-3)
+    same-length-7
+    same-length-8
+    same-length-9
+    same-length-10
+    returns-4)

@@ -1,0 +1,77 @@
+// Is there room for a link in a set? The sets' sizes are bounded beside the table of links, so that a set is counted only where its bound is
+// reached: a bound below 512 is at least the size, and 512 says nothing.
+use crate::heads::head_at;
+use model::Counts;
+use ring::count;
+use ring::wide;
+ghost use mathlib.Core.Path.{_≡_};
+ghost use mathlib.Core.Bool.{true};
+ghost use Prim.Native.Nat.{_+_, _<_, _≤_};
+ghost use Rattle.ring_laws.specs.Table.{Sound};
+ghost use Rattle.model.specs.Counts.{total};
+ghost use Rattle.simset_laws.specs.Full.{setAt, fullAt, many, fullFor};
+ghost use Rattle.simset_laws.specs.BoundLaws.{Covers};
+ghost use Rattle.simset_laws.specs.Entering.{Tested};
+
+// Words for the bounds of all heads; place 0 is not used.
+pub const BOUNDS: usize = 65;
+
+// More links than a set may have members?
+fn are_many(c: Counts) -> bool
+    ensures { λ r. ⌜ r ≡ many c ⌝ }
+{
+    wide(Counts::MAX_MEMBERS) < wide(c.processes) + wide(c.plains)
+}
+
+// The head of the set that y heads or stands in, or none.
+fn set_of(c: Counts, links: &[u32], y: u32) -> u32
+    requires { ⌜ Sound (total c + 1) (now links) ⌝ }
+    requires { ⌜ y < total c + 1 ⌝ }
+    ensures { λ r. ⌜ r ≡ setAt (total c + 1) (c .heads) y (now (links .entry)) ⌝ }
+{
+    if y <= c.heads {
+        return y;
+    }
+    head_at(links, c.total() + 1, c.heads, y)
+}
+
+// Is the set of head h full for x? If not, its bound has room for x afterwards.
+fn is_full(c: Counts, links: &[u32], x: u32, h: u32, bounds: &mut [u32]) -> bool
+    requires { ⌜ Sound (total c + 1) (now links) ⌝ }
+    requires { ⌜ (x < total c + 1) × (0 < h) × (h ≤ c .heads) ⌝ }
+    requires { ⌜ many c ≡ true ⌝ }
+    requires { ⌜ Covers c 0 (now links) (now bounds) ⌝ }
+    ensures { λ r. ⌜ Tested c h (now (links .entry)) (fullAt (total c + 1) (c .heads) x h (now (links .entry))) (now (bounds .exit)) r ⌝ }
+{
+    let i = wide(h);
+    let b = bounds[i];
+    if b < Counts::MAX_MEMBERS {
+        bounds[i] = b + 1;
+        return false;
+    }
+    let n = count(links, c.total() + 1, i);
+    if n < wide(Counts::MAX_MEMBERS) {
+        bounds[i] = n as u32 + 1;
+        return false;
+    }
+    head_at(links, c.total() + 1, c.heads, x) != h
+}
+
+// Is the set in which x would stand beside y full for it? Where there are not many links, none is.
+pub fn no_room(c: Counts, links: &[u32], x: u32, y: u32, bounds: &mut [u32]) -> bool
+    requires { ⌜ Sound (total c + 1) (now links) ⌝ }
+    requires { ⌜ (x < total c + 1) × (y < total c + 1) ⌝ }
+    requires { ⌜ Covers c 0 (now links) (now bounds) ⌝ }
+    ensures { λ r. ⌜ Tested c (setAt (total c + 1) (c .heads) y (now (links .entry))) (now (links .entry))
+        (fullFor c x y (now (links .entry))) (now (bounds .exit)) r ⌝ }
+{
+    let crowd = are_many(c);
+    if !crowd {
+        return false;
+    }
+    let h = set_of(c, links, y);
+    if h == 0 {
+        return false;
+    }
+    is_full(c, links, x, h, bounds)
+}

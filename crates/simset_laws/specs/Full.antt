@@ -1,0 +1,29 @@
+-- Request 2.5 on a table of links: is a set full for a link that would enter it? m is N + 1, and the heads are 1 .. H.
+use Prim.Native.Nat.{ℕ, _+_}
+use mathlib.Core.Bool.{Bool, false, not}
+use mathlib.Core.List.{List}
+use lib.Dec.{eqb, leb, ltb}
+use Rattle.ring_laws.specs.Lists.{if_then_else_}
+use Rattle.model.specs.declared.Counts.{Counts}
+use Rattle.model.specs.Counts.{total, mostMembers}
+use Rattle.simset_laws.specs.Procedures.{cardinalOf}
+use Rattle.simset_laws.specs.Walk.{headAt}
+
+-- the head of the set that y heads or stands in, none where it stands in none
+unfoldable pub setAt : ℕ → ℕ → ℕ → List ℕ → ℕ
+setAt m H y t = if leb y H then y else headAt m H y t
+
+-- the set of head h is full for x: it has 512 members or more, and x, which "does not count twice", is none of them
+unfoldable pub fullAt : ℕ → ℕ → ℕ → ℕ → List ℕ → Bool
+fullAt m H x h t = if ltb (cardinalOf m h t) mostMembers then false else not (eqb (headAt m H x t) h)
+
+-- there are more links than a set may have members; if not, no set is ever full for one that is not in it
+abbrev pub many : Counts → Bool
+many c = ltb mostMembers (c .processes + c .plains)
+
+-- the set in which x would stand beside y is full for it
+unfoldable pub fullFor : Counts → ℕ → ℕ → List ℕ → Bool
+fullFor c x y t =
+    let m = total c + 1 in
+    let h = setAt m (c .heads) y t in
+    if many c then (if eqb h 0 then false else fullAt m (c .heads) x h t) else false
