@@ -47,6 +47,7 @@ static const char *refusal(int code)
     case NODBRIZE_NOBODY_LEFT: return "nobody would be left to go on";
     case NODBRIZE_TIME_TOO_LATE: return "a time would be above 1,099,511,627,775";
     case NODBRIZE_RATE_TOO_HIGH: return "an accumulator's rate would pass 1,000,000";
+    case NODBRIZE_QUEUE_FULL: return "a queue would have 513 members";
     default: return "a reason that this program does not know";
     }
 }

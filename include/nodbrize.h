@@ -12,9 +12,9 @@ extern "C" {
 #endif
 
 /* The version of this interface (the function, the codes, a sheet's layout and a line's), not of the engine behind it. */
-#define NODBRIZE_VERSION "0.1.0"
+#define NODBRIZE_VERSION "0.2.0"
 #define NODBRIZE_VERSION_MAJOR 0
-#define NODBRIZE_VERSION_MINOR 1
+#define NODBRIZE_VERSION_MINOR 2
 #define NODBRIZE_VERSION_PATCH 0
 
 #define NODBRIZE_LINE_BYTES 16   /* one line of the trace */
@@ -30,6 +30,7 @@ enum nodbrize_codes {
     NODBRIZE_TIME_TOO_LATE = 5,  /* the next step was refused: a time above 1,099,511,627,775 */
     NODBRIZE_RATE_TOO_HIGH = 7,  /* the next step was refused: an accumulator's rate would pass 1,000,000 */
     NODBRIZE_SHEET_REFUSED = 8,  /* the sheet breaks its layout or limits; nothing was run */
+    NODBRIZE_QUEUE_FULL = 10,    /* the next step was refused: a queue would have 513 members */
     NODBRIZE_FULL = 200          /* not finished: fewer than NODBRIZE_LINE_BYTES bytes of trace are left */
 };
 

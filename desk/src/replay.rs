@@ -2,7 +2,7 @@
 
 use crate::operations::{row_of, Wants};
 use crate::schedule::Schedule;
-use crate::sheet::{Kind, Record, Sheet, CURRENT, MAX_ACCUMULATORS, MOST_RATE};
+use crate::sheet::{Kind, Record, Sheet, CURRENT, MAX_ACCUMULATORS, MAX_MEMBERS, MOST_RATE};
 
 pub struct Replay<'a> {
     pub sheet: &'a Sheet,
@@ -102,8 +102,8 @@ impl Replay<'_> {
         }
         match record.operation {
             1 => self.out(x),
-            2 | 3 => self.beside(x, y, record.operation == 2),
-            4 => self.into(x, y),
+            2 | 3 => self.beside(x, y, record.operation == 2)?,
+            4 => self.into(x, y)?,
             5 => self.clear(x),
             6 => self.schedule.hold(record.t)?,
             7 => self.schedule.cancel(self.current())?,
@@ -134,18 +134,38 @@ impl Replay<'_> {
         self.homes[x as usize] = head;
     }
 
-    fn into(&mut self, x: u32, head: u32) {
+    /// The head of the queue that x comes into beside y, 0 for none.
+    pub fn entered(&self, x: u32, y: u32) -> u32 {
+        match self.sheet.counts.kind(y) {
+            Kind::Head => y,
+            _ if x == y => 0,
+            _ => self.home(y),
+        }
+    }
+
+    /// The queue beside y takes one more, or has x in it already.
+    fn room(&self, x: u32, y: u32) -> Result<(), Refusal> {
+        let head = self.entered(x, y);
+        if head != self.home(x) && self.queues[head as usize].len() >= MAX_MEMBERS {
+            return Err(10);
+        }
+        Ok(())
+    }
+
+    fn into(&mut self, x: u32, head: u32) -> Result<(), Refusal> {
+        self.room(x, head)?;
         self.out(x);
         if head != 0 {
             self.put(x, head, self.queues[head as usize].len());
         }
+        Ok(())
     }
 
     /// Right behind y, or right in front of it: a head stands before its first member and behind its last.
-    fn beside(&mut self, x: u32, y: u32, behind: bool) {
+    fn beside(&mut self, x: u32, y: u32, behind: bool) -> Result<(), Refusal> {
+        self.room(x, y)?;
+        let head = self.entered(x, y);
         self.out(x);
-        let is_head = y != 0 && y <= self.sheet.counts.heads;
-        let head = if is_head { y } else { self.homes[y as usize] };
         if head != 0 {
             let queue = &self.queues[head as usize];
             let at = match queue.iter().position(|link| *link == y) {
@@ -155,6 +175,7 @@ impl Replay<'_> {
             };
             self.put(x, head, at);
         }
+        Ok(())
     }
 
     fn clear(&mut self, head: u32) {
@@ -165,9 +186,9 @@ impl Replay<'_> {
 
     fn wait(&mut self, head: u32) -> Result<(), Refusal> {
         let process = self.current();
+        self.room(process, head)?;
         self.schedule.cancel(process)?;
-        self.into(process, head);
-        Ok(())
+        self.into(process, head)
     }
 
     /// Activate, and reactivate; without effect on none and on a process at its end.

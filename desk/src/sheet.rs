@@ -6,6 +6,8 @@ pub const MAX_HEADS: u32 = 64;
 pub const MAX_PROCESSES: u32 = 1_024;
 pub const MAX_LINKS: u32 = 3_008;
 pub const MAX_RECORDS: u32 = 2_000;
+/// The most members of a queue.
+pub const MAX_MEMBERS: usize = 512;
 pub const MAX_ACCUMULATORS: u32 = 64;
 /// The latest time, 2^40 - 1.
 pub const LATEST: u64 = 1_099_511_627_775;

@@ -3,7 +3,7 @@
 use crate::map::Map;
 use crate::operations::{row_of, Row, Wants};
 use crate::replay::{Refusal, Replay};
-use crate::sheet::{Kind, Record, CURRENT, LATEST, MOST_RATE};
+use crate::sheet::{Kind, Record, CURRENT, LATEST, MAX_MEMBERS, MOST_RATE};
 
 /// So many processes are named in one line.
 const MOST_NAMED: usize = 8;
@@ -20,6 +20,7 @@ pub fn refused(model: &str, map: &Map, replay: &Replay, number: Refusal) -> Stri
         4 => nobody_left(map, replay),
         5 => (too_late(replay), vec![]),
         7 => (rate(replay), vec![]),
+        10 => full(map, replay),
         _ => (format!("refusal {number}"), vec![]),
     };
     let place = place(model, map, replay);
@@ -93,6 +94,17 @@ fn nobody_left(map: &Map, replay: &Replay) -> (String, Vec<String>) {
     let hint = "some process has to stay scheduled as long as the run is to go on, main by a 'hold' perhaps";
     let lines = [listed("idle", idle), listed("at their end", ended), Some(hint.to_string())];
     ("nobody else is scheduled, and nobody could go on".to_string(), lines.into_iter().flatten().collect())
+}
+
+/// The queue that takes no more, by name: follow and precede need not say it.
+fn full(map: &Map, replay: &Replay) -> (String, Vec<String>) {
+    let Some((record, row)) = record(replay) else { return (String::new(), vec![]) };
+    let meant = |value: u32, wants: Option<Wants>| wants.map_or(replay.current(), |w| replay.resolved(value, w));
+    let entered = replay.entered(meant(record.x, row.wants_x()), meant(record.y, row.wants_y()));
+    let head = map.name(entered);
+    let hint =
+        format!("some member has to leave it first, by 'out first({head})' perhaps, or the others need a second queue");
+    (format!("{head} had {MAX_MEMBERS} members, and a queue takes no more"), vec![hint])
 }
 
 fn too_late(replay: &Replay) -> String {

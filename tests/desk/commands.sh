@@ -115,6 +115,19 @@ refused "at a tick past the latest" "model.txt:5: refused 5 at tick 0, record 1:
 model <<< $'    accum 7 by -999999\n    hold 5\n    accum 7 by -2\na:\n    end\nb:\n    end'
 refused "a rate past its limit" "model.txt:7: refused 7 at tick 5, record 3: main could not do 'accum 7 by -2':\
  the rate of accumulator 7 was -999999 and would be -1000001: a rate lies between -1000000 and 1000000"
+crowd() { { printf 'heads q r\nprocesses main a\nlinks c1..c512\nmain:\n    into c1..c512 q\n' && cat; } > model.txt; }
+takes="q had 512 members, and a queue takes no more"
+leave="some member has to leave it first, by 'out first(q)' perhaps, or the others need a second queue"
+crowd <<< $'    into a q\na:\n    end'
+refused "a queue that is full" "model.txt:6: refused 10 at tick 0, record 513: main could not do 'into a q': $takes" "  $leave"
+crowd <<< $'    into first(q) q\n    out c9\n    follow c9 c9\n    into c9 r\n    follow first(r) first(q)\n    hold 3\n    precede a c7
+a:\n    end'
+refused "beside a member of it" "model.txt:12: refused 10 at tick 3, record 519: main could not do 'precede a c7': $takes" "  $leave"
+crowd <<< $'    wait q\na:\n    end'
+refused "the last one waits in it" "model.txt:6: refused 10 at tick 0, record 513: main could not do 'wait q': $takes" "  $leave"
+crowd <<< $'    out c512\n    into main q\n    wait q\na:\n    end'
+refused "one of its members waits" "model.txt:8: refused 4 at tick 0, record 515: main could not do 'wait q':\
+ nobody else is scheduled, and nobody could go on" "  idle: a" "  $stay"
 always="warning: this step is always refused with 3"
 model <<< $'    out none\na:\n    end\nb:\n    end'
 refused "out of none" "model.txt:5:9: $always: this is none, and 'out' $links" \

@@ -34,14 +34,18 @@ struct record {
     int64_t t;
 };
 
-enum { OUT = 1, CLEAR = 5, HOLD = 6, PASSIVATE = 7, ACCUM = 13, CURRENT = 65536 };
+enum { OUT = 1, INTO = 4, CLEAR = 5, HOLD = 6, PASSIVATE = 7, ACCUM = 13, CURRENT = 65536 };
 
-/* A sheet without heads and plain links, in which main starts at the record and every other process at 0; answers its length. */
-static size_t pack(uint8_t *sheet, uint32_t processes, uint32_t start, const struct record *records, uint32_t count)
+struct counts {
+    uint32_t heads, processes, plain;
+};
+
+/* A sheet in which main starts at the record and every other process at 0; answers its length. */
+static size_t pack_all(uint8_t *sheet, struct counts n, uint32_t start, const struct record *records, uint32_t count)
 {
-    const uint32_t header[5] = {0, processes, 0, count, start};
-    uint8_t *at = sheet + 16 + 4 * processes;
-    memset(sheet, 0, 16 + 4 * processes + 24 * count);
+    const uint32_t header[5] = {n.heads, n.processes, n.plain, count, start};
+    uint8_t *at = sheet + 16 + 4 * n.processes;
+    memset(sheet, 0, 16 + 4 * n.processes + 24 * count);
     for (int i = 0; i < 5; i++) put(sheet + 4 * i, 4, header[i]);
     for (uint32_t i = 0; i < count; i++, at += 24) {
         put(at, 4, records[i].next);
@@ -52,6 +56,12 @@ static size_t pack(uint8_t *sheet, uint32_t processes, uint32_t start, const str
         put(at + 16, 8, (uint64_t)records[i].t);
     }
     return (size_t)(at - sheet);
+}
+
+/* The same without heads and plain links. */
+static size_t pack(uint8_t *sheet, uint32_t processes, uint32_t start, const struct record *records, uint32_t count)
+{
+    return pack_all(sheet, (struct counts){0, processes, 0}, start, records, count);
 }
 
 /* ---- calls */
@@ -95,6 +105,7 @@ static void names(void)
     check(NODBRIZE_TIME_TOO_LATE == 5, "TIME_TOO_LATE is 5");
     check(NODBRIZE_RATE_TOO_HIGH == 7, "RATE_TOO_HIGH is 7");
     check(NODBRIZE_SHEET_REFUSED == 8, "SHEET_REFUSED is 8");
+    check(NODBRIZE_QUEUE_FULL == 10, "QUEUE_FULL is 10");
     check(NODBRIZE_FULL == 200, "FULL is 200");
     check(NODBRIZE_LINE_BYTES == 16, "a line has 16 bytes");
     check(NODBRIZE_TRACE_MAX == 65536, "the longest trace has 65,536 bytes");
@@ -171,6 +182,30 @@ static void steps(void)
     }
 }
 
+/* Main puts links into a queue: 512 are the most. */
+static void full_queue(void)
+{
+    enum { MOST = 512, LINE = NODBRIZE_LINE_BYTES };
+    static uint8_t sheet[16 + 4 + 24 * (MOST + 1)];
+    static struct record records[MOST + 1];
+    static struct line lines[MOST + 1];
+    const struct counts n = {1, 1, MOST + 1};
+    for (uint32_t i = 0; i <= MOST; i++) {
+        records[i] = (struct record){i == MOST ? 0 : i + 2, INTO, 0, 3 + i, 1, 0};
+        lines[i] = (struct line){0, 2, i + 1};
+    }
+    size_t length = pack_all(sheet, n, 1, records, MOST + 1);
+    call("a 513th member is refused", sheet, length, NODBRIZE_TRACE_MAX, 0, lines, MOST, NODBRIZE_QUEUE_FULL);
+    call("a 513th member, with room for its line", sheet, length, LINE * (MOST + 1), 0, lines, MOST, NODBRIZE_QUEUE_FULL);
+    call("a 513th member, without room for its line", sheet, length, LINE * (MOST + 1) - 1, 0, lines, MOST, NODBRIZE_FULL);
+    records[MOST].x = 3;
+    length = pack_all(sheet, n, 1, records, MOST + 1);
+    call("512 members, one of them moved", sheet, length, NODBRIZE_TRACE_MAX, 0, lines, MOST + 1, NODBRIZE_FINISHED);
+    records[MOST - 1].next = 0;
+    length = pack_all(sheet, n, 1, records, MOST + 1);
+    call("512 members", sheet, length, NODBRIZE_TRACE_MAX, 0, lines, MOST, NODBRIZE_FINISHED);
+}
+
 /* The longest sheet, and the longest run that a trace holds. */
 static void longest(void)
 {
@@ -202,6 +237,7 @@ int main(int argc, char **argv)
     worked_sheet(worked);
     null_pointers(worked);
     steps();
+    full_queue();
     longest();
     printf("edges: %d passed, %d failed\n", passed, failed);
     return failed == 0 ? 0 : 1;

@@ -34,6 +34,12 @@ sheet "accum 64 by -1000001"
 wants 4 "host: model.sheet: step 1 was refused: an accumulator's rate would pass 1,000,000" <<< "refused 7 after 0"
 try "refused 7" "$host" model.sheet
 
+printf 'heads q\nprocesses main\nlinks c1..c513\nmain:\n    into c1..c513 q\n' > model.txt
+"$root/sheet" build model.txt model.sheet > build.log 2>&1
+wants 4 "host: model.sheet: step 513 was refused: a queue would have 513 members" \
+    "host: the step before it: time 0, process 2, record 512" < <(seq -f '0 2 %.0f' 512 && echo "refused 10 after 512")
+try "refused 10" "$host" model.sheet
+
 head -c 95 "$root/examples/worked.sheet" > short.sheet
 wants 5 "host: short.sheet: not a sheet: check lengths, limits, operands and unused fields" <<< "sheet refused 8"
 try "no sheet" "$host" short.sheet

@@ -4,7 +4,7 @@ use crate::mutations::{on, M};
 use crate::protocol::{Lent, Request, Response};
 use crate::sim::accum::{list_in_limits, update_numbered, MOST};
 use crate::sim::call::number;
-use crate::sim::model::{require, Model, Refusal};
+use crate::sim::model::{require, Counts, Model, Refusal};
 use crate::sim::run::{Run, MAX_TRACE};
 use crate::sim::sheet::{self, Sheet};
 use crate::sim::tables;
@@ -64,7 +64,7 @@ fn direct(request: &Request, lent: &mut Lent) -> Result<u64, Refusal> {
     let call = request.call;
     let numbered = matches!(call.number, number::ACCUM | number::ACCUM_IN_PLACE);
     require(!numbered || list_in_limits(&lent.accums), 1)?;
-    let mut model = tables::decode(request.counts, &lent.tables)?;
+    let mut model = model_of(call.number, request.counts, lent)?;
     match call.number {
         number::JUDGE => Ok(0),
         number::ACCUM | number::ACCUM_IN_PLACE => {
@@ -79,6 +79,22 @@ fn direct(request: &Request, lent: &mut Lent) -> Result<u64, Refusal> {
             lent.tables = tables::encode(&model);
             answer
         }
+    }
+}
+
+/// The model that is lent to a call; the misreadings let some calls take rings of any length.
+fn model_of(call: u32, counts: Counts, lent: &Lent) -> Result<Model, Refusal> {
+    let takes_any = match call {
+        number::RUN | number::TURN => on(M::RunsTakeLong),
+        number::EMPTY | number::FIRST..=number::NEXTEV => on(M::QueriesTakeLong),
+        number::HOLD..=number::REACTIVATE | number::FINISH => on(M::AxisTakesLong),
+        number::OUT..=number::CLEAR => on(M::SetsTakeLong),
+        _ => false,
+    };
+    if takes_any {
+        tables::decode_any(counts, &lent.tables)
+    } else {
+        tables::decode(counts, &lent.tables)
     }
 }
 
@@ -116,7 +132,7 @@ fn judge_run(sheet: &Sheet, lent: &Lent) -> Result<Run, Refusal> {
     let places = sheet.counts.processes as usize + 1;
     let fit = lent.positions.len() == places && lent.accums.len() == MOST && lent.trace.len() <= MAX_TRACE;
     require(fit, 1)?;
-    let model: Model = tables::decode(sheet.counts, &lent.tables)?;
+    let model = model_of(number::RUN, sheet.counts, lent)?;
     let positions = lent.positions[0] == 0 && lent.positions.iter().all(|&p| p <= sheet.size());
     require(positions, 2)?;
     Ok(Run { model, positions: lent.positions[1..].to_vec(), accums: lent.accums.clone() })

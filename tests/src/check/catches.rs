@@ -3,7 +3,7 @@
 use crate::drive::tally::Tally;
 use crate::expected::expected;
 use crate::gen::prints::PrintSource;
-use crate::gen::run_lists::lists;
+use crate::gen::run_lists::{limit_lists, lists};
 use crate::gen::stream::Stream;
 use crate::mutations::{under, LIST};
 use crate::protocol::Request;
@@ -54,7 +54,7 @@ fn in_calls(seed: u64) -> Hunt {
 fn in_runs(seed: u64) -> Hunt {
     let mut hunt = Hunt::new();
     let mut rng = Rng::new(seed);
-    for mut list in lists(&mut rng, SHEETS, true) {
+    for mut list in lists(&mut rng, SHEETS, true).into_iter().chain(limit_lists()) {
         while list.goes_on() {
             let request = list.next(&mut rng);
             hunt.ask_request(&request);

@@ -1,6 +1,7 @@
 //! Which calls and refusals the generated streams come to.
 
 use super::left::Left;
+use super::limit::Limit;
 use super::reached::Reached;
 use crate::drive::tally::Tally;
 use crate::expected::expected;
@@ -20,14 +21,16 @@ fn codes(call: u32) -> &'static [u32] {
         op::JUDGE | op::CURRENT | op::TIME => &[0, 1, 2],
         op::HOLD => &[0, 1, 2, 5],
         op::PASSIVATE => &[0, 1, 2, 4],
-        op::WAIT | op::CANCEL | op::FINISH => &[0, 1, 2, 3, 4],
+        op::FOLLOW..=op::INTO => &[0, 1, 2, 3, 10],
+        op::WAIT => &[0, 1, 2, 3, 4, 10],
+        op::CANCEL | op::FINISH => &[0, 1, 2, 3, 4],
         op::ACTIVATE => &[0, 1, 2, 3, 5],
         op::REACTIVATE => &[0, 1, 2, 3, 4, 5],
         op::ACCUM | op::ACCUM_IN_PLACE => &[0, 1, 2, 3, 7],
         op::ACCUM_ALONE | op::ACCUM_BY_VALUE => &[0, 1, 2, 7],
         op::FRESH_MODEL => &[0, 1],
         op::EVTIME => &[0, 1, 2, 3, 6],
-        op::RUN | op::TURN => &[0, 1, 2, 3, 4, 5, 7, 8, 200],
+        op::RUN | op::TURN => &[0, 1, 2, 3, 4, 5, 7, 8, 10, 200],
         op::CHECK => &[0, 8],
         op::FRESH => &[0, 1, 8],
         _ => &[0, 1, 2, 3],
@@ -35,7 +38,7 @@ fn codes(call: u32) -> &'static [u32] {
 }
 
 /// The columns of the histogram.
-const COLUMNS: &[u32] = &[0, 1, 2, 3, 4, 5, 6, 7, 8, 200];
+const COLUMNS: &[u32] = &[0, 1, 2, 3, 4, 5, 6, 7, 8, 10, 200];
 
 /// What the calls program's buffers hold at least.
 const SIZES: &[usize; 8] = &[8_448, 4_352, 1_088, 1_088, 80, 1_088, 56_000, 66_000];
@@ -48,10 +51,12 @@ struct Reach {
     three_at_one_time: u32,
     main_idle: u32,
     left: Left,
+    limit: Limit,
 }
 
 impl Reach {
-    fn count(&mut self, request: &Request, code: u32) {
+    fn count(&mut self, tally: &mut Tally, request: &Request, code: u32) {
+        self.limit.count(tally, request, code);
         let Ok(model) = decode(request.counts, &request.lent.tables) else { return };
         let largest = request.counts == Counts::new(MAX_HEADS, MAX_PROCESSES, MAX_PLAIN);
         let tie = model.notices.windows(3).any(|w| w[0].time == w[2].time);
@@ -74,6 +79,7 @@ impl Reach {
             tally.check(count > 0, &format!("never met: {name}"));
         }
         self.left.check(tally);
+        self.limit.check(tally);
     }
 }
 
@@ -91,7 +97,7 @@ pub fn check(tally: &mut Tally, seed: u64) {
             request.lengths().iter().zip(SIZES).all(|(length, size)| length <= size),
             "a request past the sizes",
         );
-        reach.count(&request, code);
+        reach.count(tally, &request, code);
     }
     print("call", &met);
     reach.check(tally);
@@ -126,7 +132,7 @@ fn run_lists(tally: &mut Tally, seed: u64) {
     println!("lines of all runs: {lines}");
     reached.check_each(tally);
     let got: Vec<u32> = met.values().flat_map(|row| row.keys().copied()).collect();
-    tally.check(got == [0, 1, 3, 4, 5, 7, 200], &format!("run lists came to codes {got:?}"));
+    tally.check(got == [0, 1, 3, 4, 5, 7, 10, 200], &format!("run lists came to codes {got:?}"));
 }
 
 fn print(name: &str, met: &Histogram) {

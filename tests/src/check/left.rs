@@ -3,7 +3,7 @@
 use crate::drive::tally::Tally;
 use crate::protocol::Request;
 use crate::sim::call::{number as op, Call};
-use crate::sim::model::{Model, MAX_HEADS, MAX_PLAIN, MAX_PROCESSES};
+use crate::sim::model::{Model, MAX_HEADS, MAX_MEMBERS, MAX_PLAIN, MAX_PROCESSES};
 use std::collections::{BTreeMap, BTreeSet};
 
 /// How often links leave queues, and which.
@@ -11,7 +11,8 @@ use std::collections::{BTreeMap, BTreeSet};
 pub struct Left {
     by_call: BTreeMap<u32, u32>,
     from_none: BTreeMap<u32, u32>,
-    from_long: BTreeMap<u32, u32>,
+    from_longest: BTreeMap<u32, u32>,
+    from_crowd: BTreeMap<u32, u32>,
     within: u32,
     itself: u32,
     nowhere: u32,
@@ -45,7 +46,9 @@ impl Left {
             return;
         }
         *self.by_call.entry(number).or_default() += 1;
-        *self.from_long.entry(number).or_default() += u32::from(model.sets[from].len() > 512);
+        *self.from_longest.entry(number).or_default() += u32::from(model.sets[from].len() == MAX_MEMBERS);
+        let crowd = model.sets.iter().map(Vec::len).sum::<usize>() == (MAX_PROCESSES + MAX_PLAIN) as usize;
+        *self.from_crowd.entry(number).or_default() += u32::from(crowd);
         let own = y == from as u32 + 1 || (x != y && model.sets[from].contains(&y));
         self.within += u32::from(own);
         self.itself += u32::from(x == y);
@@ -58,7 +61,8 @@ impl Left {
         for (name, by_call) in [
             ("a link in a set", &self.by_call),
             ("a link in no set", &self.from_none),
-            ("a link in a set of more than 512", &self.from_long),
+            ("a link in a full set", &self.from_longest),
+            ("a link where 4,032 are in sets", &self.from_crowd),
         ] {
             for call in [op::OUT, op::FOLLOW, op::PRECEDE, op::INTO, op::WAIT] {
                 let count = by_call.get(&call).copied().unwrap_or(0);
@@ -77,7 +81,7 @@ impl Left {
             println!("a link {name}: {count}");
             tally.check(count > 0, &format!("never met: a link {name}"));
         }
-        for length in (0..=520).chain([(MAX_PROCESSES + MAX_PLAIN) as usize]) {
+        for length in 0..=MAX_MEMBERS {
             tally.check(self.cleared.contains(&length), &format!("never met: clear of {length} members"));
         }
     }

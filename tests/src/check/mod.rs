@@ -3,6 +3,9 @@
 pub mod catches;
 pub mod histogram;
 pub mod left;
+pub mod limit;
+pub mod limit_runs;
+pub mod limit_ways;
 pub mod queues;
 pub mod reached;
 pub mod readings;
@@ -19,6 +22,7 @@ pub fn all(seed: u64) -> bool {
     readings::check(&mut tally);
     queues::check(&mut tally);
     reached::check(&mut tally);
+    limit_runs::check(&mut tally);
     sound::check(&mut tally, seed);
     histogram::check(&mut tally, seed);
     tally.close()

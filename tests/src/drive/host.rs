@@ -4,7 +4,7 @@
 use super::child::Program;
 use super::report::sheet_text;
 use super::tally::Tally;
-use crate::gen::{buffers, queue_cases, runs, sheet_damage, sheets, special};
+use crate::gen::{buffers, limit_sheets, queue_cases, runs, sheet_damage, sheets, special};
 use crate::rng::Rng;
 use crate::sim::run::{Run, MAX_TRACE};
 use crate::sim::sheet::{self, Sheet};
@@ -18,11 +18,11 @@ struct Input {
     trace: Vec<u8>,
 }
 
-/// Compares the answers to the sweep of buffers and the queues, then to so many inputs.
+/// Compares the answers to the sweep of buffers, the queues and those that come to their limit, then to so many inputs.
 pub fn drive(program: &Program, count: u64, seed: u64) -> bool {
     let mut tally = Tally::new("host", 5_000);
     let mut rng = Rng::new(seed);
-    let queues = queue_cases::all().into_iter().map(|sheet| (sheet, MAX_TRACE));
+    let queues = queue_cases::all().into_iter().chain(limit_sheets::all()).map(|sheet| (sheet, MAX_TRACE));
     let sweep: Vec<Input> = buffers::all()
         .into_iter()
         .chain(queues)

@@ -1,6 +1,6 @@
 //! Damaged tables, one class for each way to break what document 01 asks of them.
 
-use super::ring_damage as rings;
+use super::{long_rings, ring_damage as rings};
 use crate::rng::Rng;
 use crate::sim::model::{Counts, Model, Notice, LIMIT, MAX_HEADS, MAX_PLAIN, MAX_PROCESSES};
 use crate::sim::tables::{encode, Tables};
@@ -54,6 +54,7 @@ pub const CLASSES: &[Class] = &[
     class("successors that fall into a loop", 2, rings::link_loop),
     class("axis successors that fall into a loop", 2, rings::axis_loop),
     class("two predecessors swapped", 2, rings::swapped_predecessors),
+    class("a ring longer than 512", 2, long_rings::lengthened),
     class("times place 0", 2, |rng, m| changed(m, |t| t.times[0] = 1 + rng.below(9))),
     class("idle process with a time", 2, idle_time),
     class("time above the limit", 2, late_time),

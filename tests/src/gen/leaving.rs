@@ -1,12 +1,16 @@
-//! Calls that take links from queues: queues of every length from none to 520 and the longest, links at their ends and in
-//! the middle, moves within a queue, to another and to none.
+//! Calls that take links from queues: queues of every length from none to the longest, links at their ends and in the middle,
+//! moves within a queue, to another and to none.
 
+use super::crowds::call;
 use super::Case;
 use crate::protocol::{Lent, Request};
 use crate::rng::Rng;
 use crate::sim::call::{number, Call};
-use crate::sim::model::{Counts, Model, Notice, MAX_HEADS, MAX_PLAIN, MAX_PROCESSES};
+use crate::sim::model::{Counts, Model, Notice, MAX_HEADS, MAX_MEMBERS, MAX_PLAIN, MAX_PROCESSES};
 use crate::sim::tables::encode;
+
+/// As many members as a set may have.
+const LONGEST: u32 = MAX_MEMBERS as u32;
 
 /// A model whose head `queue` has so many members, in an order that shows no pattern; the next link is in the set of
 /// another head, if there is one, and those behind it are in none. The first member that is a process is current.
@@ -32,6 +36,17 @@ impl Queue {
         Queue { model, queue }
     }
 
+    /// The same with the links that are in no set spread over the other heads.
+    fn crowded(mut self) -> Queue {
+        let counts = self.model.counts;
+        let others: Vec<u32> = (1..=counts.heads).filter(|&h| h != self.queue).collect();
+        let apart: Vec<u32> = (counts.heads + 1..=counts.total()).filter(|&x| self.model.set_of(x).is_none()).collect();
+        for (link, head) in apart.into_iter().zip(others.into_iter().cycle()) {
+            self.model.sets[head as usize - 1].push(link);
+        }
+        self
+    }
+
     fn case(&self, call: Call) -> Case {
         let lent = Lent { tables: encode(&self.model), ..Lent::default() };
         let request = Request { call, counts: self.model.counts, lent, sheet: Vec::new() };
@@ -54,7 +69,7 @@ impl Queue {
         let mut beside = vec![0, self.queue];
         if let Some(other) = other_than(counts, self.queue) {
             beside.push(other);
-            beside.extend(self.model.members(other));
+            beside.extend(self.model.members(other).first());
         }
         beside.extend((counts.heads + 1..=counts.total()).find(|&x| self.model.set_of(x).is_none()));
         beside.extend(self.some_members());
@@ -83,34 +98,31 @@ impl Queue {
     }
 }
 
-fn call(number: u32, x: u32, y: u32) -> Call {
-    Call { x, y, ..Call::new(number) }
-}
-
 fn other_than(counts: Counts, head: u32) -> Option<u32> {
     [1, counts.heads].into_iter().find(|&h| h != head && counts.is_head(h))
 }
 
-/// Every length up to 520 shortly; some lengths with every call.
+/// Every length shortly; some lengths with every call, on models with some links in sets and with all of them.
 pub fn all() -> Vec<Case> {
     let mut cases = Vec::new();
-    for length in 0..=520 {
+    for length in 0..=LONGEST {
         let queue = Queue::new(Counts::new(2, 8, 513), 1 + length % 2, length);
         cases.extend(queue.short().into_iter().map(|call| queue.case(call)));
     }
-    for (counts, queue, length) in [
+    let some = [
         (Counts::new(1, 1, 0), 1, 0),
         (Counts::new(1, 1, 0), 1, 1),
         (Counts::new(1, 2, 1), 1, 2),
         (Counts::new(3, 2, 6), 2, 3),
         (Counts::new(2, 4, 20), 2, 23),
-        (Counts::new(1, 3, 600), 1, 511),
-        (Counts::new(1, 3, 600), 1, 512),
-        (Counts::new(2, 3, 600), 2, 513),
-        (Counts::new(MAX_HEADS, MAX_PROCESSES, MAX_PLAIN), MAX_HEADS, 2_000),
-        (Counts::new(1, MAX_PROCESSES, MAX_PLAIN), 1, MAX_PROCESSES + MAX_PLAIN),
-    ] {
-        let queue = Queue::new(counts, queue, length);
+        (Counts::new(1, 3, 600), 1, LONGEST - 1),
+        (Counts::new(1, 3, 600), 1, LONGEST),
+        (Counts::new(2, 3, 600), 2, LONGEST),
+        (Counts::new(MAX_HEADS, MAX_PROCESSES, MAX_PLAIN), MAX_HEADS, LONGEST),
+    ];
+    let crowded = [8, MAX_HEADS].map(|heads| (Counts::new(heads, MAX_PROCESSES, MAX_PLAIN), heads, LONGEST));
+    let queues = some.map(|(counts, queue, length)| Queue::new(counts, queue, length)).into_iter();
+    for queue in queues.chain(crowded.map(|(counts, queue, length)| Queue::new(counts, queue, length).crowded())) {
         cases.extend(queue.calls().into_iter().map(|call| queue.case(call)));
     }
     cases
@@ -126,7 +138,7 @@ pub fn any(rng: &mut Rng, number: u32) -> Case {
     let most = rng.pick(&[4, 30, 530, 530, 1_500]);
     let counts = Counts::new(rng.between(1, 3), rng.between(1, 9), rng.between(0, most));
     let queue = rng.between(1, counts.heads);
-    let length = rng.between(1, counts.total() - counts.heads);
+    let length = rng.between(1, (counts.total() - counts.heads).min(LONGEST));
     let queue = Queue::new(counts, queue, length);
     let mut calls = queue.calls();
     calls.retain(|call| call.number == number);

@@ -2,9 +2,15 @@
 
 pub mod accums;
 pub mod buffers;
+pub mod crowded;
+pub mod crowds;
 pub mod damage;
 pub mod extreme;
 pub mod leaving;
+pub mod limit;
+pub mod limit_sheets;
+pub mod limit_steps;
+pub mod long_rings;
 pub mod models;
 pub mod operands;
 pub mod prints;

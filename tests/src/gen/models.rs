@@ -23,7 +23,7 @@ const GROWING: &[(u32, u64)] = &[
 /// Small counts mostly, now and then middling ones or the limits.
 pub fn counts(rng: &mut Rng) -> Counts {
     match rng.below(100) {
-        0 => Counts::new(rng.pick(&[MAX_HEADS, MAX_HEADS, 1]), MAX_PROCESSES, MAX_PLAIN),
+        0 => Counts::new(rng.pick(&[MAX_HEADS, MAX_HEADS, 8, 1]), MAX_PROCESSES, MAX_PLAIN),
         1 => Counts::new(MAX_HEADS, rng.between(1, 3), 0),
         2 => Counts::new(rng.between(0, 2), MAX_PROCESSES, rng.between(0, 3)),
         3 => Counts::new(rng.between(1, 3), rng.between(1, 3), MAX_PLAIN),

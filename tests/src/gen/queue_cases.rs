@@ -2,13 +2,13 @@
 //! and after them the set operations, where the same operand means the first member.
 
 use crate::sim::call::number as op;
-use crate::sim::model::{Counts, MAX_HEADS};
+use crate::sim::model::{Counts, MAX_HEADS, MAX_MEMBERS};
 use crate::sim::sheet::{Record, Sheet, CURRENT};
 
 /// Main, one that wakes main at each tick, one that has ended, and two that are woken, the highest among them.
 const PROCESSES: u32 = 5;
-/// As many links as a sheet can put into a queue and still have room for the calls.
-const MOST_LINKS: u32 = 1_900;
+/// With a process behind them these links make a full set.
+const MOST_LINKS: u32 = MAX_MEMBERS as u32 - 1;
 
 /// A link stands before process 3: activate wakes the process and into moves the link. Then out takes the process from the queue,
 /// and main, after none, leaves the axis to it.
@@ -70,7 +70,8 @@ pub fn all() -> Vec<Sheet> {
     sheets.extend(queues.iter().map(|queue| called(few, 2, queue)));
     let last = Counts::new(MAX_HEADS, PROCESSES, 2);
     sheets.push(called(last, MAX_HEADS, &[last.total(), last.total() - 1, last.process(4)]));
-    for (plain, behind) in [(300, vec![]), (300, vec![1]), (300, vec![5, 4]), (MOST_LINKS, vec![4])] {
+    let most = MOST_LINKS;
+    for (plain, behind) in [(300, vec![]), (300, vec![1]), (300, vec![5, 4]), (most - 1, vec![4]), (most, vec![4])] {
         let counts = Counts::new(1, PROCESSES, plain);
         let mut queue: Vec<u32> = (counts.process(PROCESSES) + 1..=counts.total()).collect();
         queue.extend(behind.into_iter().map(|p| counts.process(p)));
@@ -85,7 +86,7 @@ pub fn forms() -> Vec<(u32, u8)> {
     [(op::CANCEL, 0)].into_iter().chain(clauses(op::ACTIVATE)).chain(clauses(op::REACTIVATE)).collect()
 }
 
-fn record(operation: u32, x: u32, y: u32, t: i64) -> Record {
+pub fn record(operation: u32, x: u32, y: u32, t: i64) -> Record {
     Record { operation: operation as u8, x, y, t, ..Record::default() }
 }
 
@@ -144,7 +145,7 @@ fn moves(member: u32, head: u32, other: u32) -> Vec<Record> {
 }
 
 /// Adds the body of the next process, which ends or begins again.
-fn add_body(sheet: &mut Sheet, mut body: Vec<Record>, again: bool) {
+pub fn add_body(sheet: &mut Sheet, mut body: Vec<Record>, again: bool) {
     let first = sheet.size() + 1;
     body.iter_mut().zip(first + 1..).for_each(|(record, next)| record.next = next);
     if let Some(last) = body.last_mut() {

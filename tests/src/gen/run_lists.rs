@@ -1,6 +1,6 @@
 //! Lists of run calls over one sheet, each going on from what the last one left.
 
-use super::{buffers, queue_cases, queues, runs, sheets, special};
+use super::{buffers, limit_sheets, queue_cases, queues, runs, sheets, special};
 use crate::protocol::{Lent, Request};
 use crate::rng::Rng;
 use crate::sim::call::number;
@@ -59,10 +59,10 @@ impl RunList {
     }
 }
 
-/// Three calls with each buffer where one line more comes to fit; then the queues.
+/// Three calls with each buffer where one line more comes to fit; then the queues, and those that come to their limit.
 pub fn sweep() -> Vec<RunList> {
     let lengths = buffers::all().into_iter().map(|(sheet, length)| RunList::new(sheet, vec![length; 3]));
-    lengths.chain(queue_lists()).collect()
+    lengths.chain(queue_lists()).chain(limit_lists()).collect()
 }
 
 /// Each queue built by hand in one call, and cut into pieces of a few lines once it is filled.
@@ -72,6 +72,20 @@ pub fn queue_lists() -> Vec<RunList> {
         let filled = LINE * queues::filling(&sheet);
         let pieces = [5, 2, 1, 3, 8].map(|lines| LINE * lines).into_iter().cycle().take(PIECES);
         let cut = [MAX_TRACE].into_iter().chain(pieces).chain([filled]).collect();
+        lists.extend([RunList::new(sheet.clone(), vec![MAX_TRACE]), RunList::new(sheet, cut)]);
+    }
+    lists
+}
+
+/// Each sheet that comes to the limit in one call, and cut into pieces of a few lines once a queue has 500 members. After its end come
+/// calls with a trace that is too long, with two that have no room for a line, and with one that has.
+pub fn limit_lists() -> Vec<RunList> {
+    let mut lists = Vec::new();
+    for sheet in limit_sheets::all() {
+        let nearly = LINE * limit_sheets::steps_to(&sheet, 500);
+        let pieces = [1, 2, 5, 1, 3].map(|lines| LINE * lines).into_iter().cycle().take(PIECES);
+        let after = [LINE, 0, LINE - 1, MAX_TRACE + 1, MAX_TRACE];
+        let cut = after.into_iter().chain(pieces).chain([nearly]).collect();
         lists.extend([RunList::new(sheet.clone(), vec![MAX_TRACE]), RunList::new(sheet, cut)]);
     }
     lists

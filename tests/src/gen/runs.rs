@@ -7,7 +7,7 @@ use crate::protocol::{Lent, Request};
 use crate::rng::Rng;
 use crate::sim::accum::MOST;
 use crate::sim::call::{number, Call};
-use crate::sim::model::{Counts, Model};
+use crate::sim::model::{Counts, Model, MAX_MEMBERS};
 use crate::sim::run::{Run, LINE, MAX_TRACE};
 use crate::sim::sheet::Sheet;
 
@@ -124,7 +124,7 @@ pub fn check(rng: &mut Rng) -> Case {
     Case { request, note }
 }
 
-/// Good runs that no sheet leads to: any positions, accumulators of any kind, all links in one queue.
+/// Good runs that no sheet leads to: any positions, accumulators of any kind, all links in as few queues as can be.
 fn vary(rng: &mut Rng, sheet: &Sheet, run: &mut Run) {
     if rng.chance(5) {
         crowd(rng, &mut run.model);
@@ -137,16 +137,20 @@ fn vary(rng: &mut Rng, sheet: &Sheet, run: &mut Run) {
     }
 }
 
-/// Every plain link goes into one queue, and some processes stand behind them.
+/// Every plain link goes into one queue, and some processes stand behind them. What would be too much for a queue goes into the next.
 fn crowd(rng: &mut Rng, model: &mut Model) {
     let c = model.counts;
     if c.heads == 0 {
         return;
     }
     let behind = rng.between(0, c.processes.min(3));
-    let queue = (c.process(c.processes) + 1..=c.total()).chain((1..=behind).map(|p| c.process(p)));
-    model.sets.iter_mut().for_each(Vec::clear);
-    model.sets[rng.index(c.heads as usize)] = queue.collect();
+    let most = MAX_MEMBERS - rng.pick(&[0, 0, 1, 2]);
+    let mut links: Vec<u32> =
+        (c.process(c.processes) + 1..=c.total()).chain((1..=behind).map(|p| c.process(p))).collect();
+    let (heads, first) = (c.heads as usize, rng.index(c.heads as usize));
+    for s in (0..heads).map(|s| (first + s) % heads) {
+        model.sets[s] = links.split_off(links.len().saturating_sub(most));
+    }
 }
 
 /// Damage to the model's tables; with it at times a trace above the limit.

@@ -1,19 +1,24 @@
 //! Good sheets: a body of records for each process, chained, often looping, at times shared.
 
-use super::queues;
 use super::records::{record, Style};
+use super::{crowded, queues};
 use crate::rng::Rng;
 use crate::sim::call::number as op;
 use crate::sim::model::{Counts, LIMIT, MAX_HEADS, MAX_PLAIN, MAX_PROCESSES};
 use crate::sim::run::Run;
 use crate::sim::sheet::{Record, Sheet, MAX_RECORDS};
 
-/// So many sheets in a hundred are about a queue.
+/// So many sheets in a hundred are about a queue, and so many about one that is full, or nearly.
 const QUEUES: u64 = 12;
+const CROWDED: u64 = 3;
 
 /// A good sheet, mostly one that goes on for a while and has notices that meet.
 pub fn any(rng: &mut Rng) -> Sheet {
-    let mut sheet = if rng.chance(QUEUES) { queues::any(rng) } else { ordinary(rng) };
+    let mut sheet = match rng.below(100) {
+        share if share < QUEUES => queues::any(rng),
+        share if share < QUEUES + CROWDED => crowded::any(rng),
+        _ => ordinary(rng),
+    };
     if rng.chance(25) {
         renumber(rng, &mut sheet);
     }

@@ -1,6 +1,6 @@
-//! Sheets built by hand: the worked one, the smallest, queues, and runs of about 1,000,000 steps.
+//! Sheets built by hand: the worked one, the smallest, queues, some of them full, and runs of about 1,000,000 steps.
 
-use super::queue_cases;
+use super::{limit_sheets, queue_cases};
 use crate::sim::call::number as op;
 use crate::sim::model::Counts;
 use crate::sim::print::MOST_STEPS;
@@ -113,6 +113,7 @@ pub fn all() -> Vec<Sheet> {
     let mut sheets =
         vec![worked(), without_records(), lonely_finish(), counted(40, After::Ends), counted(41, After::Refused)];
     sheets.extend(queue_cases::all());
+    sheets.extend(limit_sheets::some());
     sheets.extend(long());
     sheets
 }

@@ -2,7 +2,7 @@
 
 use super::models::Walk;
 use super::operands::{call, Manner};
-use super::{accums, damage, leaving, runs, Case};
+use super::{accums, damage, leaving, limit, limit_steps, long_rings, runs, Case};
 use crate::expected::known;
 use crate::protocol::{Lent, Request};
 use crate::rng::Rng;
@@ -29,8 +29,8 @@ pub struct Stream {
     rng: Rng,
     walk: Walk,
     calls: Vec<(u32, u64)>,
-    /// The queues that links leave come first.
-    queues: std::vec::IntoIter<Case>,
+    /// These come first: queues that links leave, sets at their limit, by calls and by steps, and rings past it.
+    by_hand: std::vec::IntoIter<Case>,
 }
 
 impl Stream {
@@ -40,13 +40,16 @@ impl Stream {
         let walk = Walk::new(&mut rng);
         let chosen = all_calls().into_iter().filter(|call| only.is_empty() || only.contains(call));
         let calls: Vec<(u32, u64)> = chosen.map(|call| (call, weight(call))).collect();
-        let mut queues = leaving::all();
-        queues.retain(|case| calls.iter().any(|(call, _)| *call == case.request.call.number));
-        Stream { rng, walk, calls, queues: queues.into_iter() }
+        let mut by_hand = leaving::all();
+        by_hand.extend(limit::all());
+        by_hand.extend(limit_steps::all());
+        by_hand.extend(long_rings::all());
+        by_hand.retain(|case| calls.iter().any(|(call, _)| *call == case.request.call.number));
+        Stream { rng, walk, calls, by_hand: by_hand.into_iter() }
     }
 
     pub fn next(&mut self) -> Case {
-        if let Some(case) = self.queues.next() {
+        if let Some(case) = self.by_hand.next() {
             return case;
         }
         let number = self.rng.weighted(&self.calls);
@@ -59,6 +62,9 @@ impl Stream {
         }
         if leaving::has(number) && self.rng.chance(8) {
             return leaving::any(&mut self.rng, number);
+        }
+        if limit::has(number) && self.rng.chance(8) {
+            return limit::any(&mut self.rng, number);
         }
         self.walk.go_on(&mut self.rng);
         if number == number::FINISH && self.rng.chance(60) {

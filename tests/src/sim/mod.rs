@@ -4,6 +4,8 @@
 pub mod accum;
 pub mod activation;
 pub mod call;
+pub mod kept;
+pub mod limit;
 pub mod model;
 pub mod operand;
 pub mod print;

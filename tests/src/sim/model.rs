@@ -1,13 +1,16 @@
 //! The model as plain lists: the members of each head, the notices in order, the terminated.
 
+use super::kept::Kept;
 use crate::mutations::{on, M};
 
-/// The number of a refusal, 1 to 8.
+/// The number of a refusal, 1 to 8 or 10.
 pub type Refusal = u32;
 
 pub const MAX_HEADS: u32 = 64;
 pub const MAX_PROCESSES: u32 = 1_024;
 pub const MAX_PLAIN: u32 = 3_008;
+/// The most members that a set may have.
+pub const MAX_MEMBERS: usize = 512;
 /// The latest time, 2^40 - 1.
 pub const LIMIT: u64 = (1 << 40) - 1;
 
@@ -80,6 +83,8 @@ pub struct Model {
     pub notices: Vec<Notice>,
     /// Whether the p-th process is terminated, at p - 1.
     pub terminated: Vec<bool>,
+    /// What a misread run counts beside its lists; none else.
+    pub kept: Option<Kept>,
 }
 
 impl Model {
@@ -90,6 +95,7 @@ impl Model {
             sets: vec![Vec::new(); counts.heads as usize],
             notices: vec![Notice { process: counts.main(), time: 0 }],
             terminated: vec![false; counts.processes as usize],
+            kept: None,
         }
     }
 
@@ -108,7 +114,7 @@ impl Model {
 
     /// The head of the set that holds this link, 0 if none does.
     pub fn head_of(&self, link: u32) -> u32 {
-        let near = |set: &Vec<u32>| !on(M::WalkOf512) || set.iter().rev().take(512).any(|&member| member == link);
+        let near = |set: &Vec<u32>| !on(M::WalkOf511) || set.iter().rev().take(511).any(|&member| member == link);
         self.set_of(link).filter(|&s| near(&self.sets[s])).map_or(0, |s| s as u32 + 1)
     }
 

@@ -39,6 +39,8 @@ impl Model {
             members.min(2)
         } else if on(M::SearchOfMany) {
             members.min(256)
+        } else if on(M::SearchOf511) {
+            members.min(511)
         } else {
             members
         }

@@ -2,6 +2,7 @@
 
 use super::accum::{update_numbered, Accum, MOST};
 use super::call::{number, Call};
+use super::kept::Kept;
 use super::model::{require, Model, Refusal};
 use super::operand::Field;
 use super::sheet::{Record, Sheet};
@@ -131,7 +132,14 @@ impl Run {
                 let time = self.model.time();
                 update_numbered(&mut self.accums, r.x, time, r.t).map(|()| r.next)
             }
-            _ => self.call(r).map(|()| r.next),
+            _ => {
+                let before = self.model.kept.is_some().then(|| self.model.sets.clone()); // only for a misreading
+                self.call(r)?;
+                if let (Some(before), Some(kept)) = (before, &mut self.model.kept) {
+                    kept.follow(u32::from(r.operation), &before, &self.model.sets);
+                }
+                Ok(r.next)
+            }
         }
     }
 
@@ -153,6 +161,13 @@ impl Run {
         if let Err(refusal) = self.judge_entry(trace.len()) {
             return (End::Refused(refusal), 0);
         }
+        self.model.kept = Kept::begin(&self.model);
+        let ended = self.turns(sheet, trace);
+        self.model.kept = None;
+        ended
+    }
+
+    fn turns(&mut self, sheet: &Sheet, trace: &mut [u8]) -> (End, u32) {
         let mut lines = 0;
         loop {
             let at = LINE * lines as usize;

@@ -1,6 +1,8 @@
 //! The time axis of SIMULATION on a list of notices: hold, passivate, wait, cancel, finish, queries.
 
+use super::call::number;
 use super::model::{require, Model, Notice, Refusal, LIMIT};
+use super::sets::Side;
 use crate::mutations::{on, M};
 
 /// A sum of ticks as a time; above the limit it is refused with 5.
@@ -43,11 +45,19 @@ impl Model {
     }
 
     /// Into the set by current, then passivate; on none it is out, then passivate. Answers the head that current left.
+    /// A full set is told before a last notice, 10 ahead of 4.
     pub fn wait(&mut self, y: u32) -> Result<u32, Refusal> {
+        self.judge_members_early(number::WAIT, self.current(), y)?;
         self.head_or_none(y)?;
         require(y != 0 || !on(M::WaitNoneRefused), 3)?;
+        require(self.notices.len() > 1 || !on(M::FourBeforeTen), 4)?;
+        let judged = self.judge_members(number::WAIT, self.current(), y);
+        if judged.is_err() && on(M::FullWaitPassivates) {
+            return self.passivate().map(|()| 0);
+        }
+        judged?;
         require(self.notices.len() > 1 || on(M::WaitRefusedEnters), 4)?;
-        let left = self.enter(self.current(), y)?;
+        let left = self.put(self.current(), y, Side::InFront);
         self.passivate()?;
         Ok(match left {
             _ if on(M::WaitTellsNothing) => 0,

@@ -1,5 +1,6 @@
 //! The sets of SIMSET on lists: out, follow, precede, into, clear and their queries.
 
+use super::call::number;
 use super::model::{require, Model, Refusal};
 use crate::mutations::{on, M};
 
@@ -31,7 +32,7 @@ impl Model {
     }
 
     /// Out first, then beside y if y is a head or is then linked.
-    fn move_beside(&mut self, x: u32, y: u32, side: Side) {
+    pub fn move_beside(&mut self, x: u32, y: u32, side: Side) {
         let unlinked = self.counts.is_link(y) && self.set_of(y).is_none();
         if (unlinked && on(M::FollowUnlinkedStays)) || (x == y && on(M::FollowSelfStays)) {
             return;
@@ -51,22 +52,30 @@ impl Model {
 
     /// Follow and precede; none for y is out alone. Answers the head that out does.
     pub fn beside(&mut self, x: u32, y: u32, side: Side) -> Result<u32, Refusal> {
+        let by = if side == Side::Behind { number::FOLLOW } else { number::PRECEDE };
+        self.judge_members_early(by, x, y)?;
         require(self.counts.is_link(x), 3)?;
         require(y == 0 || self.counts.is_linkage(y), 3)?;
         require(y != 0 || !on(M::SecondNoneRefused), 3)?;
-        let left = self.head_of(x);
-        self.move_beside(x, y, side);
-        Ok(self.told(left, x, Some(y)))
+        self.judge_members(by, x, y)?;
+        Ok(self.put(x, y, side))
     }
 
     /// Into takes a head or none; it is precede of the head.
     pub fn enter(&mut self, x: u32, y: u32) -> Result<u32, Refusal> {
+        self.judge_members_early(number::INTO, x, y)?;
         require(self.counts.is_link(x), 3)?;
         self.head_or_none(y)?;
         require(y != 0 || !on(M::SecondNoneRefused), 3)?;
+        self.judge_members(number::INTO, x, y)?;
+        Ok(self.put(x, y, Side::InFront))
+    }
+
+    /// Moves x beside y and answers the head that it left.
+    pub fn put(&mut self, x: u32, y: u32, side: Side) -> u32 {
         let left = self.head_of(x);
-        self.move_beside(x, y, Side::InFront);
-        Ok(self.told(left, x, Some(y)))
+        self.move_beside(x, y, side);
+        self.told(left, x, Some(y))
     }
 
     /// What a call tells that took x from the set of `left` and, unless it was out, put it beside y; the misreadings tell
@@ -111,7 +120,7 @@ impl Model {
             _ if on(M::ClearTellsWhether) => removed.min(1),
             _ if on(M::ClearCountsHead) => removed + 1,
             _ if on(M::ClearCountsByte) => removed % 256,
-            _ if on(M::ClearCountsHalf) => removed.min(512),
+            _ if on(M::ClearCountsTo511) => removed.min(511),
             _ => removed,
         })
     }
@@ -128,7 +137,12 @@ impl Model {
 
     pub fn cardinal(&self, x: u32) -> Result<u32, Refusal> {
         require(self.counts.is_head(x), 3)?;
-        Ok(self.members(x).len() as u32 + u32::from(on(M::CardinalCountsHead)))
+        let members = self.members(x).len() as u32;
+        Ok(match members {
+            _ if on(M::CardinalCountsHead) => members + 1,
+            _ if on(M::CardinalCountsTo511) => members.min(511),
+            _ => members,
+        })
     }
 
     pub fn empty(&self, x: u32) -> Result<bool, Refusal> {

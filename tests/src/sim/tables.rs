@@ -1,7 +1,7 @@
 //! The lent tables. A model is read from them by walking every ring into a list; they are well formed
 //! exactly if the tables written from those lists are the same, word for word.
 
-use super::model::{require, Counts, Model, Notice, Refusal, LIMIT};
+use super::model::{require, Counts, Model, Notice, Refusal, LIMIT, MAX_MEMBERS};
 use crate::mutations::{on, M};
 
 #[derive(Clone, Debug, Default, PartialEq, Eq)]
@@ -23,6 +23,13 @@ pub fn judge_lengths(counts: Counts, t: &Tables) -> Result<(), Refusal> {
 
 /// The model that the tables spell, or refusal 1 or 2.
 pub fn decode(counts: Counts, t: &Tables) -> Result<Model, Refusal> {
+    let model = decode_any(counts, t)?;
+    require(short(&model), if on(M::LongRingTen) { 10 } else { 2 })?;
+    Ok(model)
+}
+
+/// The same, with rings of any length.
+pub fn decode_any(counts: Counts, t: &Tables) -> Result<Model, Refusal> {
     judge_lengths(counts, t)?;
     let model = spell(counts, t).ok_or(2u32)?;
     require(sound(&model) && same(&encode(&model), t, counts), 2)?;
@@ -69,6 +76,26 @@ fn sound(model: &Model) -> bool {
     let main_marked = model.terminated[0] && !on(M::MainMarkTaken);
     let live_marked = model.notices.iter().any(|n| model.is_terminated(n.process));
     !model.notices.is_empty() && !falls && !late && !main_marked && !live_marked
+}
+
+/// No ring has more members than a set may have; the misreadings count otherwise.
+fn short(model: &Model) -> bool {
+    let most = match MAX_MEMBERS {
+        most if on(M::RingOf513Taken) => most + 1,
+        most if on(M::RingOf512Refused) => most - 1,
+        most => most,
+    };
+    let mut lengths: Vec<usize> = model.sets.iter().map(Vec::len).collect();
+    if on(M::RingsCountedTogether) {
+        lengths = vec![lengths.iter().sum()];
+    }
+    if on(M::LastRingUncounted) {
+        lengths.pop();
+    }
+    if on(M::FirstRingUncounted) {
+        lengths.drain(..lengths.len().min(1));
+    }
+    on(M::AnyRingTaken) || lengths.iter().all(|&length| length <= most)
 }
 
 /// Every word the same; the misreadings leave some out.
