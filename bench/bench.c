@@ -4,7 +4,8 @@
  *
  * For each sheet a trace of 65,536 bytes is filled from fresh again and again. A round is a batch of one engine and a batch of the
  * other, the order changing from round to round; printed are the medians: nanoseconds for a step, millions of steps a second of the
- * proved engine, and the ratio of the two with its quartiles. Answers and all trace bytes must agree. */
+ * proved engine, and the ratio of the two with its quartiles. Answers and all trace bytes must agree. With OTHER defined, the function of
+ * that name, an earlier engine's, takes the limit engine's place. */
 #define _GNU_SOURCE
 #include "limit/limit.h"
 #include "nodbrize.h"
@@ -14,6 +15,11 @@
 enum { ROUNDS = 15, TRACE = 65536 };
 
 typedef uint64_t engine(const uint8_t *, size_t, uint8_t *, size_t);
+
+#ifndef OTHER
+#define OTHER limit_run_sheet
+#endif
+engine OTHER;
 
 static double now(void)
 {
@@ -62,25 +68,25 @@ static int one_sheet(const char *name)
     size_t n = slurp(name, sheet, sizeof sheet);
     memset(trace, 0xA5, TRACE);
     memset(other, 0xA5, TRACE);
-    uint64_t a = nodbrize_run(sheet, n, trace, TRACE), b = limit_run_sheet(sheet, n, other, TRACE);
+    uint64_t a = nodbrize_run(sheet, n, trace, TRACE), b = OTHER(sheet, n, other, TRACE);
     int agree = a == b && !memcmp(trace, other, TRACE);
 
-    int k = calls(nodbrize_run, sheet, n, trace), j = calls(limit_run_sheet, sheet, n, trace);
-    double ours[ROUNDS], limit[ROUNDS], ratio[ROUNDS];
+    int k = calls(nodbrize_run, sheet, n, trace), j = calls(OTHER, sheet, n, trace);
+    double ours[ROUNDS], others[ROUNDS], ratio[ROUNDS];
     for (int r = 0; r < ROUNDS; r++) {
-        if (r % 2) limit[r] = batch(limit_run_sheet, sheet, n, trace, j);
+        if (r % 2) others[r] = batch(OTHER, sheet, n, trace, j);
         ours[r] = batch(nodbrize_run, sheet, n, trace, k);
-        if (r % 2 == 0) limit[r] = batch(limit_run_sheet, sheet, n, trace, j);
-        ratio[r] = ours[r] / limit[r];
+        if (r % 2 == 0) others[r] = batch(OTHER, sheet, n, trace, j);
+        ratio[r] = ours[r] / others[r];
     }
     qsort(ours, ROUNDS, sizeof *ours, rising);
-    qsort(limit, ROUNDS, sizeof *limit, rising);
+    qsort(others, ROUNDS, sizeof *others, rising);
     qsort(ratio, ROUNDS, sizeof *ratio, rising);
 
     double steps = a / 256 ? (double)(a / 256) : 1, mine = ours[ROUNDS / 2];
     const char *base = strrchr(name, '/');
-    printf("%-16s %6.0f steps  %8.2f ns  limit %8.2f ns  %7.1f M/s  ratio %6.3f (%.3f to %.3f)%s\n", base ? base + 1 : name, steps,
-           mine / steps, limit[ROUNDS / 2] / steps, steps * 1e3 / mine, ratio[ROUNDS / 2], ratio[ROUNDS / 4], ratio[ROUNDS - 1 - ROUNDS / 4],
+    printf("%-16s %6.0f steps  %8.2f ns  other %8.2f ns  %7.1f M/s  ratio %6.3f (%.3f to %.3f)%s\n", base ? base + 1 : name, steps,
+           mine / steps, others[ROUNDS / 2] / steps, steps * 1e3 / mine, ratio[ROUNDS / 2], ratio[ROUNDS / 4], ratio[ROUNDS - 1 - ROUNDS / 4],
            agree ? "" : "  ANSWERS DIFFER");
     return agree;
 }

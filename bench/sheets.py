@@ -10,6 +10,8 @@ spread     1,024 processes whose holds are different primes: times spread wide
 tiny       two processes that only hold
 accum      eight processes; five of six steps are accum
 sets       one process that moves 48 links among 4 sets
+crowd      one process that moves the first of a long queue to the end of the next: queues of 300, 400 and 500 links
+crowd-430  the same with three queues of 430 links
 NAME-P     ties and spread with P processes
 """
 import struct
@@ -208,10 +210,25 @@ def sets(heads=4, links=48):
     return sheet(heads, links, [1], r)
 
 
+def crowd(lengths=(300, 400, 500)):
+    """The links enter their queues one by one; then every step enters a queue, but for a hold after each round."""
+    heads, link = len(lengths), len(lengths) + 2
+    r = Records()
+    for head, length in enumerate(lengths, 1):
+        for k in range(length):
+            r.add(INTO, x=link + k, y=head)
+        link += length
+    r.add(HOLD, t=1, label='again')
+    for k in range(10 * heads):
+        r.add(INTO, x=first(1 + k % heads), y=1 + (k + 1) % heads, to='again' if k == 10 * heads - 1 else None)
+    return sheet(heads, sum(lengths), [1], r)
+
+
 def main():
     folder = Path(sys.argv[1])
-    made = {make.__name__: make() for make in (shop, mixed, ties, tiewalk, tieprior, spread, tiny, accum, sets)}
+    made = {make.__name__: make() for make in (shop, mixed, ties, tiewalk, tieprior, spread, tiny, accum, sets, crowd)}
     made.update({'%s-%d' % (make.__name__, p): make(p) for make in (ties, spread) for p in (2, 16, 128, 1024)})
+    made['crowd-430'] = crowd((430, 430, 430))
     for name, content in made.items():
         (folder / (name + '.sheet')).write_bytes(content)
 

@@ -128,7 +128,7 @@ module _ (m H : ℕ) (sets : List (List ℕ)) (t : List ℕ) (s : SpellsSets m H
         still = ⊎-elim (λ e. inl e) (λ i. inr (without-in y x (l g) other i)) on
 
     -- no set has too many where no head's has
-    none-exceeds : ((g : ℕ) → Head m (setHead H) g → sizeAfter g ≤ mostMembers) → exceeds after ≡ false
+    pub none-exceeds : ((g : ℕ) → Head m (setHead H) g → sizeAfter g ≤ mostMembers) → exceeds after ≡ false
     none-exceeds few =
         exceeds-not after
         (λ i. below i H

@@ -15,6 +15,8 @@ pub mod ClearLaw
 pub mod QueryLaws
 pub mod HeadLaws
 pub mod FullLaws
+pub mod LimitLaws
+pub mod LimitWorked
 pub mod ToldWorked
 pub mod Meaning
 pub mod BoundLaws

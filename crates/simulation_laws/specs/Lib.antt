@@ -36,3 +36,4 @@ pub mod PublicLaws
 pub mod Ties
 pub mod Forward
 pub mod ToldWorked
+pub mod LimitWorked
