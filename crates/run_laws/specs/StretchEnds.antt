@@ -1,7 +1,7 @@
 -- The end of a stretch of turns, where the position goes to the table: there is no room for a line, or the call is made apart.
 use Prim.Native.Nat.{ℕ, _/_, _≤_, _<_}
 use mathlib.Core.Path.{_≡_, sym, ap, subst, _∙_}
-use mathlib.Core.Bool.{true}
+use mathlib.Core.Bool.{Bool, true}
 use mathlib.Core.List.{List}
 use lib.IntN.{ℤ}
 use lib.ListN.{set}
@@ -42,12 +42,13 @@ module _ (c : Counts) (bytes : List ℕ) (end stop n₀ : ℕ) (whole : RanOn) (
       })
 
   -- and before a call that is made apart
-  module _ (h : at < stop) (p : Performed) (is : p ≡ tried c (recordGot (c .processes) bytes r) f (u .model) (u .words))
+  module _ (h : at < stop) (p : Performed) (known : Bool)
+      (is : p ≡ tried c (recordGot (c .processes) bytes r) f (u .model) (u .words) known)
       (m : isApart (p .effect) ≡ true) where
     pub waits : (ps : List ℕ) → ps ≡ set (u .positions) f r
         → Paused c bytes room n₀ whole tr₀ (runOf (p .tables) ps (p .words)) tr (record { at = at; pause = Apart })
     waits ps eps =
-        let d = left-of c (recordGot (c .processes) bytes r) f (u .model) (u .words) p is m in
+        let d = left-of c (recordGot (c .processes) bytes r) f (u .model) (u .words) known p is m in
         let same : positioned u f r ≡ runOf (p .tables) ps (p .words) =
         ap (λ (t : Tables). runOf t (set (u .positions) f r) (u .words)) (sym (d .1))
         ∙ ap (λ (w : List ℤ). runOf (p .tables) (set (u .positions) f r) w) (sym (d .2))

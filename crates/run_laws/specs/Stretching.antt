@@ -2,7 +2,7 @@
 use Prim.Native.Nat.{ℕ, _+_, _*_, _-_, _/_, _≤_, _<_}
 use mathlib.Core.Path.{_≡_, refl, sym, ap, subst, _∙_}
 use mathlib.Core.Logic.{_≢_}
-use mathlib.Core.Bool.{true, false, _&&_}
+use mathlib.Core.Bool.{Bool, true, false, _&&_}
 use mathlib.Core.List.{List}
 use native.Mathlib.Omega.{arith}
 use lib.Dec.{eqb}
@@ -105,10 +105,11 @@ module _ (c : Counts) (bytes : List ℕ) (end stop n₀ : ℕ) (whole : RanOn) (
 
   -- ---- a call that was made here
 
-  module _ (h : at < stop) (p : Performed) (is : p ≡ tried c (recordGot (c .processes) bytes r) f (u .model) (u .words))
+  module _ (h : at < stop) (p : Performed) (known : Bool)
+      (is : p ≡ tried c (recordGot (c .processes) bytes r) f (u .model) (u .words) known)
       (m : isApart (p .effect) ≡ false) where
     made : p ≡ performed c (recordGot (c .processes) bytes r) f (u .model) (u .words)
-    made = made-of c (recordGot (c .processes) bytes r) f (u .model) (u .words) p is m
+    made = made-of c (recordGot (c .processes) bytes r) f (u .model) (u .words) known p is m
 
     -- main at position 0 is met apart
     unfinished : endsNow c (u .model .axis) (set (u .positions) f r) ≡ false
@@ -118,9 +119,9 @@ module _ (c : Counts) (bytes : List ℕ) (end stop n₀ : ℕ) (whole : RanOn) (
       where
         some : r ≢ 0
         some e =
-            let z = left-0 c (recordGot (c .processes) bytes r) f (u .model .links) (ap (λ (q : Record). q .operation)
+            let z = left-0 c (recordGot (c .processes) bytes r) f (u .model .links) known (ap (λ (q : Record). q .operation)
             (sym (got-end (c .processes) bytes r e))) in
-            let y : true ≡ false = sym z ∙ not-left c (recordGot (c .processes) bytes r) f (u .model) (u .words) p is m in
+            let y : true ≡ false = sym z ∙ not-left c (recordGot (c .processes) bytes r) f (u .model) (u .words) known p is m in
             clash (sym y)
 
     pub stopped : (x : Refusal) → p .effect ≡ Refused x → (ps : List ℕ) → ps ≡ set (u .positions) f r

@@ -1,9 +1,11 @@
-// The calls that are made apart from a stretch of turns: the rarer ones, and finish.
+// The calls that are made apart from a stretch of turns: the rarer ones, those that have to count a set, and finish.
 use crate::arms::cancel_of;
 use crate::arms::timed_of;
+use crate::arms::wait_of;
 use crate::perform::unless_refused;
 use crate::set_arms::clear_of;
 use crate::set_arms::follow_of;
+use crate::set_arms::into_of;
 use crate::set_arms::precede_of;
 use model::Counts;
 use model::verdict::Verdict;
@@ -74,8 +76,13 @@ fn apart_at(
     match op {
         2 => unless_refused(follow_of(c, sheet, i, links, f, bounds), Effect::Stays),
         3 => unless_refused(precede_of(c, sheet, i, links, f, bounds), Effect::Stays),
+        4 => unless_refused(into_of(c, sheet, i, links, f, bounds), Effect::Stays),
         5 => unless_refused(clear_of(c, sheet, i, links, f), Effect::Stays),
         7 => unless_refused(passivate(c, axis, times), Effect::Moves),
+        8 => unless_refused(
+            wait_of(c, sheet, i, links, axis, times, f, bounds),
+            Effect::Moves,
+        ),
         9 => unless_refused(cancel_of(c, sheet, i, links, axis, times, f), Effect::Moves),
         _ => unless_refused(
             timed_of(c, sheet, i, links, axis, times, marks, f, op == 11),

@@ -12,15 +12,18 @@ use simulation::steps::activate;
 use simulation::steps::cancel;
 use simulation::steps::hold_now;
 use simulation::steps::wait;
+use simulation::steps::wait_known;
 ghost use mathlib.Core.Path.{_≡_};
 ghost use mathlib.Core.Bool.{true, false};
 ghost use Prim.Native.Nat.{_+_, _*_, _≤_};
 ghost use lib.ListN.{length};
-ghost use Rattle.model.specs.Counts.{limit};
-ghost use Rattle.model_laws.specs.Now.{half};
+ghost use Rattle.model.specs.Counts.{limit, linkageAt};
+ghost use Rattle.model_laws.specs.Now.{half, firstOf};
 ghost use Rattle.simulation_laws.specs.Calls.{holdStep, cancelStep, timedStep, waitStep};
 ghost use Rattle.simulation_laws.specs.Promise.{sqs, Answers, Judged, Takeable, Noticed};
 ghost use Rattle.simset_laws.specs.BoundLaws.{Covers};
+ghost use Rattle.simset_laws.specs.KnownRoom.{Roomy};
+ghost use Rattle.simulation_laws.specs.StepPromise.{WaitMade};
 ghost use Rattle.simulation_laws.specs.WaitPromise.{WaitEntered};
 ghost use Rattle.accum_laws.specs.Flat.{updatedIn};
 ghost use Rattle.sheet.specs.Sheet.{recordFrom, recordBytes};
@@ -65,6 +68,28 @@ pub(crate) fn wait_of(
 {
     let y = y_of(c, sheet, i, links, f, false);
     wait(c, links, axis, times, y, bounds)
+}
+
+// Wait, where room is known.
+pub(crate) fn wait_known_of(
+    c: Counts,
+    sheet: &[u8],
+    i: usize,
+    links: &mut [u32],
+    axis: &mut [u32],
+    times: &mut [u64],
+    f: u32,
+) -> Answer
+    requires { ⌜ Readable c (now sheet) i (now links) f (recordFrom (now sheet) i .y) ⌝ }
+    requires { ⌜ Takeable c (now axis) (now times) ⌝ }
+    requires { ⌜ Roomy c (now links) (linkageAt c (firstOf (half c) (now axis)))
+        (operandWith c false (now links) f (recordFrom (now sheet) i .y)) ⌝ }
+    ensures { λ r. ⌜ WaitMade c (waitStep c (operandWith c false (now (links .entry)) f (recordFrom (now (sheet .entry)) i .y))
+        (now (links .entry)) (sqs (now (axis .entry)) (now (times .entry)))) (now (links .exit)) (now (axis .exit)) (now (times .exit))
+        r ⌝ }
+{
+    let y = y_of(c, sheet, i, links, f, false);
+    wait_known(c, links, axis, times, y)
 }
 
 pub(crate) fn cancel_of(

@@ -1,9 +1,10 @@
 // The calls that a stretch of turns makes itself, on judged tables, and what they mean for current.
 use crate::arms::accum_of;
 use crate::arms::hold_of;
-use crate::arms::wait_of;
-use crate::set_arms::into_of;
+use crate::arms::wait_known_of;
+use crate::set_arms::into_known_of;
 use crate::set_arms::out_of;
+use crate::set_arms::room_of;
 use crate::soon::delayed_of;
 use crate::soon::direct_of;
 use model::Counts;
@@ -23,7 +24,7 @@ ghost use Rattle.sheet.specs.Sheet.{recordOffset, recordFrom};
 ghost use Rattle.run_laws.specs.Needs.{Readable, Performable};
 ghost use Rattle.run_laws.specs.Run.{recordGot};
 ghost use Rattle.run_laws.specs.Performed.{unlessRefused, branched};
-ghost use Rattle.run_laws.specs.Tried.{tried};
+ghost use Rattle.run_laws.specs.Tried.{tried, roomKnown};
 ghost use Rattle.model_laws.specs.Tables.{modelOf};
 ghost use Rattle.simset_laws.specs.BoundLaws.{Covers, Linking};
 
@@ -80,18 +81,29 @@ fn perform_at(
       effect = r;
     }
         ≡ tried c (recordFrom (now (sheet .entry)) i) f (modelOf (now (links .entry)) (now (axis .entry)) (now (times .entry))
-        (now (marks .entry))) (now (accums .entry)) ⌝ }
+        (now (marks .entry))) (now (accums .entry))
+        (roomKnown c (recordFrom (now (sheet .entry)) i) f (now (links .entry)) (now (bounds .entry))) ⌝ }
     ensures { λ _. ⌜ (Linking c (now (links .entry)) → Covers c 0 (now (links .exit)) (now (bounds .exit))) ⌝ }
 {
     let op = operation_at(sheet, i);
     match op {
         1 => unless_refused(out_of(c, sheet, i, links, f), Effect::Stays),
-        4 => unless_refused(into_of(c, sheet, i, links, f, bounds), Effect::Stays),
+        4 => {
+            if !room_of(c, sheet, i, links, f, bounds) {
+                return Effect::Apart;
+            }
+            unless_refused(into_known_of(c, sheet, i, links, f), Effect::Stays)
+        }
         6 => unless_refused(hold_of(c, sheet, i, axis, times, f, time), Effect::Moves),
-        8 => unless_refused(
-            wait_of(c, sheet, i, links, axis, times, f, bounds),
-            Effect::Moves,
-        ),
+        8 => {
+            if !room_of(c, sheet, i, links, f, bounds) {
+                return Effect::Apart;
+            }
+            unless_refused(
+                wait_known_of(c, sheet, i, links, axis, times, f),
+                Effect::Moves,
+            )
+        }
         10 => {
             let k = clause_at(sheet, i);
             if k == 2 {
@@ -131,7 +143,8 @@ pub fn perform(
       effect = v;
     }
         ≡ tried c (recordGot (c .processes) (now (sheet .entry)) r) f
-        (modelOf (now (links .entry)) (now (axis .entry)) (now (times .entry)) (now (marks .entry))) (now (accums .entry)) ⌝ }
+        (modelOf (now (links .entry)) (now (axis .entry)) (now (times .entry)) (now (marks .entry))) (now (accums .entry))
+        (roomKnown c (recordGot (c .processes) (now (sheet .entry)) r) f (now (links .entry)) (now (bounds .entry))) ⌝ }
     ensures { λ _. ⌜ (Linking c (now (links .entry)) → Covers c 0 (now (links .exit)) (now (bounds .exit))) ⌝ }
 {
     if r == 0 {

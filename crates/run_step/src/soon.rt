@@ -9,6 +9,7 @@ use simulation::soon::activate_after;
 use simulation::soon::activate_now;
 use simulation::steps::process_or_none;
 ghost use mathlib.Core.Path.{_≡_};
+ghost use mathlib.Core.Bool.{Bool};
 ghost use Rattle.model_laws.specs.Now.{half};
 ghost use Rattle.model_laws.specs.Tables.{modelOf};
 ghost use Rattle.simulation_laws.specs.Promise.{Noticed};
@@ -32,9 +33,9 @@ pub(crate) fn direct_of(
     requires { ⌜ Callable c (now sheet) i f (modelOf (now links) (now axis) (now times) (now marks)) ⌝ }
     requires { ⌜ Noticed (half c) f time (now axis) (now times) ⌝ }
     requires { ⌜ (recordFrom (now sheet) i .operation ≡ 10) × (recordFrom (now sheet) i .clause ≡ 0) ⌝ }
-    ensures { λ r. ⌜ Leaves (tried c (recordFrom (now (sheet .entry)) i) f
-        (modelOf (now (links .entry)) (now (axis .entry)) (now (times .entry)) (now (marks .entry))))
-        (modelOf (now (links .exit)) (now (axis .exit)) (now (times .exit)) (now (marks .exit))) r ⌝ }
+    ensures { λ r. ⌜ ((known : Bool) → Leaves (λ w. tried c (recordFrom (now (sheet .entry)) i) f
+        (modelOf (now (links .entry)) (now (axis .entry)) (now (times .entry)) (now (marks .entry))) w known)
+        (modelOf (now (links .exit)) (now (axis .exit)) (now (times .exit)) (now (marks .exit))) r) ⌝ }
 {
     let x = x_of(c, sheet, i, links, f, false);
     let ok = process_or_none(c, x);
@@ -62,9 +63,9 @@ pub(crate) fn delayed_of(
     requires { ⌜ Callable c (now sheet) i f (modelOf (now links) (now axis) (now times) (now marks)) ⌝ }
     requires { ⌜ Noticed (half c) f time (now axis) (now times) ⌝ }
     requires { ⌜ (recordFrom (now sheet) i .operation ≡ 10) × (recordFrom (now sheet) i .clause ≡ 2) ⌝ }
-    ensures { λ r. ⌜ Leaves (tried c (recordFrom (now (sheet .entry)) i) f
-        (modelOf (now (links .entry)) (now (axis .entry)) (now (times .entry)) (now (marks .entry))))
-        (modelOf (now (links .exit)) (now (axis .exit)) (now (times .exit)) (now (marks .exit))) r ⌝ }
+    ensures { λ r. ⌜ ((known : Bool) → Leaves (λ w. tried c (recordFrom (now (sheet .entry)) i) f
+        (modelOf (now (links .entry)) (now (axis .entry)) (now (times .entry)) (now (marks .entry))) w known)
+        (modelOf (now (links .exit)) (now (axis .exit)) (now (times .exit)) (now (marks .exit))) r) ⌝ }
 {
     let x = x_of(c, sheet, i, links, f, false);
     let ok = process_or_none(c, x);

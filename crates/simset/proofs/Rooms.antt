@@ -11,7 +11,7 @@ use borrow.Author.Tests.{eq-eqb, ne-eqb, le-leb, lt-leb, leb-true, le-ltb, lt-lt
 use Rattle.ring_laws.specs.Lists.{test}
 use Rattle.ring_laws.specs.Table.{counted}
 use Rattle.model.specs.declared.Counts.{Counts}
-use Rattle.model.specs.Counts.{total, mostMembers}
+use Rattle.model.specs.Counts.{total, mostMembers, isHead, both}
 use Rattle.simset_laws.specs.Walk.{headAt, head-found}
 use Rattle.simset_laws.specs.Full.{setAt, fullAt, many, fullFor}
 use Rattle.simset_laws.specs.BoundLaws.{Covers, covers-one, covers-same, covers-few, covers-none}
@@ -32,6 +32,9 @@ module _ (m H y : ℕ) (t : List ℕ) where
       test (leb y H)
       (λ e. omega (arith, rw e at is, leb-true y H e))
       (λ e. omega (arith, rw e at is, head-found H t m (getD t y 0)))
+
+pub head-upto : (c : Counts) (y : ℕ) → isHead c y ≡ true → y ≤ c .heads
+head-upto c y e = leb-true y (c .heads) (both (leb 1 y) (leb y (c .heads)) e .1)
 
 module _ (c : Counts) (x h : ℕ) (links bounds : List ℕ) (v : Covers c 0 links bounds) (some : 0 < h) (in-heads : h ≤ c .heads)
     (lots : many c ≡ true) (i : ℕ) (ih : i ≡ h) where

@@ -7,11 +7,13 @@ use ring::wide;
 ghost use mathlib.Core.Path.{_≡_};
 ghost use mathlib.Core.Bool.{true};
 ghost use Prim.Native.Nat.{_+_, _<_, _≤_};
+ghost use lib.ListN.{length};
 ghost use Rattle.ring_laws.specs.Table.{Sound};
 ghost use Rattle.model.specs.Counts.{total};
 ghost use Rattle.simset_laws.specs.Full.{setAt, fullAt, many, fullFor};
 ghost use Rattle.simset_laws.specs.BoundLaws.{Covers};
 ghost use Rattle.simset_laws.specs.Entering.{Tested};
+ghost use Rattle.simset_laws.specs.KnownRoom.{Known};
 
 // Words for the bounds of all heads; place 0 is not used.
 pub const BOUNDS: usize = 65;
@@ -21,6 +23,28 @@ fn are_many(c: Counts) -> bool
     ensures { λ r. ⌜ r ≡ many c ⌝ }
 {
     wide(Counts::MAX_MEMBERS) < wide(c.processes) + wide(c.plains)
+}
+
+// Is it known, with no count, that the set of head y has room for one more? Then its bound is raised. Of another y there is nothing to ask.
+pub fn known_room(c: Counts, y: u32, bounds: &mut [u32]) -> bool
+    requires { ⌜ c .heads < length (now bounds) ⌝ }
+    ensures { λ r. ⌜ Known c y (now (bounds .entry)) (now (bounds .exit)) r ⌝ }
+{
+    let crowd = are_many(c);
+    if !crowd {
+        return true;
+    }
+    let head = c.is_head(y);
+    if !head {
+        return true;
+    }
+    let i = wide(y);
+    let bound = bounds[i];
+    if bound < Counts::MAX_MEMBERS {
+        bounds[i] = bound + 1;
+        return true;
+    }
+    false
 }
 
 // The head of the set that y heads or stands in, or none.

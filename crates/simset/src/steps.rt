@@ -15,6 +15,7 @@ ghost use Rattle.simset_laws.specs.Calls.{orNone, outStep, followStep, precedeS
 ghost use Rattle.simset_laws.specs.Promise.{Moved};
 ghost use Rattle.simset_laws.specs.BoundLaws.{Covers};
 ghost use Rattle.simset_laws.specs.Entering.{Entered};
+ghost use Rattle.simset_laws.specs.KnownRoom.{Roomy};
 
 // A linkage, or none.
 fn linkage_or_none(c: Counts, y: u32) -> bool
@@ -106,6 +107,25 @@ pub fn into(c: Counts, links: &mut [u32], x: u32, y: u32, bounds: &mut [u32]) ->
     }
     if no_room(c, links, x, y, bounds) {
         return Answer::Refused(Refusal::Full);
+    }
+    let n = c.total();
+    procedures::precede(links, n + 1, x, y);
+    Answer::Done
+}
+
+// Into, where the set has room.
+pub fn into_known(c: Counts, links: &mut [u32], x: u32, y: u32) -> Answer
+    requires { ⌜ Sound (total c + 1) (now links) ⌝ }
+    requires { ⌜ Roomy c (now links) x y ⌝ }
+    ensures { λ r. ⌜ Moved (total c + 1) (intoStep c x y (now (links .entry))) (record { links = now (links .exit); answer = r }) ⌝ }
+{
+    let link = c.is_link(x);
+    if !link {
+        return Answer::Refused(Refusal::Operand);
+    }
+    let head = head_or_none(c, y);
+    if !head {
+        return Answer::Refused(Refusal::Operand);
     }
     let n = c.total();
     procedures::precede(links, n + 1, x, y);

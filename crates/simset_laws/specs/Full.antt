@@ -1,11 +1,12 @@
 -- Request 2.5 on a table of links: is a set full for a link that would enter it? m is N + 1, and the heads are 1 .. H.
 use Prim.Native.Nat.{ℕ, _+_}
-use mathlib.Core.Bool.{Bool, false, not}
+use mathlib.Core.Bool.{Bool, true, false, not, _&&_}
 use mathlib.Core.List.{List}
 use lib.Dec.{eqb, leb, ltb}
+use lib.ListN.{getD, set}
 use Rattle.ring_laws.specs.Lists.{if_then_else_}
 use Rattle.model.specs.declared.Counts.{Counts}
-use Rattle.model.specs.Counts.{total, mostMembers}
+use Rattle.model.specs.Counts.{total, mostMembers, isHead}
 use Rattle.simset_laws.specs.Procedures.{cardinalOf}
 use Rattle.simset_laws.specs.Walk.{headAt}
 
@@ -27,3 +28,17 @@ fullFor c x y t =
     let m = total c + 1 in
     let h = setAt m (c .heads) y t in
     if many c then (if eqb h 0 then false else fullAt m (c .heads) x h t) else false
+
+-- ---- with bounds of the sets' sizes beside the table, one for each head
+
+-- y heads a set whose room has to be known
+abbrev pub asksRoom : Counts → ℕ → Bool
+asksRoom c y = many c && isHead c y
+
+-- the set of head y is known to have room for one more, with no count
+unfoldable pub knownRoom : Counts → ℕ → List ℕ → Bool
+knownRoom c y bounds = if asksRoom c y then ltb (getD bounds y 0) mostMembers else true
+
+-- its bound with one more
+unfoldable pub raised : Counts → ℕ → List ℕ → List ℕ
+raised c y bounds = if asksRoom c y then (if ltb (getD bounds y 0) mostMembers then set bounds y (getD bounds y 0 + 1) else bounds) else bounds

@@ -21,4 +21,5 @@ pub mod ToldWorked
 pub mod Meaning
 pub mod BoundLaws
 pub mod Entering
+pub mod KnownRoom
 pub mod Kept

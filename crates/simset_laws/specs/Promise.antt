@@ -110,6 +110,11 @@ moved-as m c k j t got e w = rw e w
 pub told-as : (c : Counts) (k j : SetCall) (t : List ℕ) (a : Answer) → k ≡ j → a ≡ setTold c j t → a ≡ setTold c k t
 told-as c k j t a e w = rw e w
 
+-- of the parties that an operand stands for
+pub moved-of : (m : ℕ) (s : ℕ → ℕ → List ℕ → Linked) (t : List ℕ) (got : Linked) (x x′ y y′ : ℕ) → x ≡ x′ → y ≡ y′
+    → Moved m (s x y t) got → Moved m (s x′ y′ t) got
+moved-of m s t got x x′ y y′ e f k = rw (e, f) at k
+
 -- a call that was made on the links, answered by what was told before it
 pub moved-telling : (m : ℕ) (c : Counts) (k : SetCall) (t l : List ℕ) (a v r : Answer) → v ≡ setTold c k t
     → Moved m (linksAfter c k t) (record { links = l; answer = a }) → r ≡ ifAccepted a v

@@ -16,14 +16,15 @@ use simulation_procedures::procedures;
 ghost use mathlib.Core.Path.{_≡_};
 ghost use Prim.Native.Nat.{_+_, _-_, _<_, _≤_};
 ghost use Rattle.ring_laws.specs.Table.{Sound};
-ghost use Rattle.model.specs.Counts.{isProcess, total};
-ghost use Rattle.model_laws.specs.Now.{half};
+ghost use Rattle.model.specs.Counts.{isProcess, linkageAt, total};
+ghost use Rattle.model_laws.specs.Now.{half, firstOf};
 ghost use Rattle.simset_laws.specs.Calls.{orNone};
+ghost use Rattle.simset_laws.specs.KnownRoom.{Roomy};
 ghost use Rattle.simset_laws.specs.BoundLaws.{Covers};
 ghost use Rattle.simulation_laws.specs.Plain.{timedNeed};
 ghost use Rattle.simulation_laws.specs.Calls.{yPlace, holdStep, passivateStep, cancelStep, timedStep, finishStep, waitStep};
 ghost use Rattle.simulation_laws.specs.Promise.{sqs, Answers, Judged, Takeable, Noticed};
-ghost use Rattle.simulation_laws.specs.StepPromise.{FinishMade};
+ghost use Rattle.simulation_laws.specs.StepPromise.{FinishMade, WaitMade};
 ghost use Rattle.simulation_laws.specs.WaitPromise.{WaitEntered};
 
 // A process, or none.
@@ -163,6 +164,35 @@ pub fn current_link(c: Counts, f: u32) -> u32
     ensures { λ r. ⌜ r ≡ c .heads + f ⌝ }
 {
     c.heads + f
+}
+
+// Wait, where the set has room for current.
+pub fn wait_known(
+    c: Counts,
+    links: &mut [u32],
+    axis: &mut [u32],
+    times: &mut [u64],
+    y: u32,
+) -> Answer
+    requires { ⌜ Takeable c (now axis) (now times) ⌝ }
+    requires { ⌜ Sound (total c + 1) (now links) ⌝ }
+    requires { ⌜ Roomy c (now links) (linkageAt c (firstOf (half c) (now axis))) y ⌝ }
+    ensures { λ r. ⌜ WaitMade c (waitStep c y (now (links .entry)) (sqs (now (axis .entry)) (now (times .entry)))) (now (links .exit))
+        (now (axis .exit)) (now (times .exit)) r ⌝ }
+{
+    let ok = head_or_none(c, y);
+    if !ok {
+        return Answer::Refused(Refusal::Operand);
+    }
+    let m = wide(c.processes) + 2;
+    if lone(axis, m) {
+        return Answer::Refused(Refusal::NoNotice);
+    }
+    let at = first(axis, m);
+    let x = current_link(c, at);
+    precede(links, c.total() + 1, x, y);
+    drop_first(axis, m, times, at);
+    Answer::Done
 }
 
 pub fn wait(

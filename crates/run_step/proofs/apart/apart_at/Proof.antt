@@ -1,5 +1,5 @@
 use Rattle.simset_laws.specs.Entering.{covers-clear-step}
-use Rattle.run_laws.specs.Arms.{arm-2, arm-3, arm-5, arm-7, arm-9, arm-timed-as}
+use Rattle.run_laws.specs.Arms.{arm-2, arm-3, arm-4, arm-5, arm-7, arm-8, arm-9, arm-timed-as}
 use Rattle.run_laws.specs.Tried.{left-apart}
 use Rattle.run_laws.specs.Performing.{judged, takeable, x-readable, y-readable, some, most}
 use mathlib.Core.Path.{sym, _∙_}
@@ -28,20 +28,20 @@ at-match-keys2 x = x
 abbrev after-precede-of : tie.After-precede-of → tie.After-precede-of
 after-precede-of x = x
 
-abbrev at-match-keys3 : tie.At-match-keys3 → tie.At-match-keys3
-at-match-keys3 x = x
+abbrev at-match-keys4 : tie.At-match-keys4 → tie.At-match-keys4
+at-match-keys4 x = x
 
 abbrev after-clear-of : tie.After-clear-of → tie.After-clear-of
 after-clear-of x = x
 
-abbrev at-match-keys4 : tie.At-match-keys4 → tie.At-match-keys4
-at-match-keys4 x = x
+abbrev at-match-keys5 : tie.At-match-keys5 → tie.At-match-keys5
+at-match-keys5 x = x
 
 abbrev after-passivate : tie.After-passivate → tie.After-passivate
 after-passivate x = x
 
-abbrev at-match-keys5 : tie.At-match-keys5 → tie.At-match-keys5
-at-match-keys5 x = x
+abbrev at-match-keys7 : tie.At-match-keys7 → tie.At-match-keys7
+at-match-keys7 x = x
 
 abbrev after-cancel-of : tie.After-cancel-of → tie.After-cancel-of
 after-cancel-of x = x
@@ -55,20 +55,38 @@ after-unless-refused x = x
 abbrev after-unless-refused2 : tie.After-unless-refused2 → tie.After-unless-refused2
 after-unless-refused2 x = x
 
-abbrev after-unless-refused3 : tie.After-unless-refused3 → tie.After-unless-refused3
-after-unless-refused3 x = x
-
 abbrev after-unless-refused4 : tie.After-unless-refused4 → tie.After-unless-refused4
 after-unless-refused4 x = x
 
 abbrev after-unless-refused5 : tie.After-unless-refused5 → tie.After-unless-refused5
 after-unless-refused5 x = x
 
-abbrev after-unless-refused6 : tie.After-unless-refused6 → tie.After-unless-refused6
-after-unless-refused6 x = x
+abbrev after-unless-refused7 : tie.After-unless-refused7 → tie.After-unless-refused7
+after-unless-refused7 x = x
+
+abbrev after-unless-refused8 : tie.After-unless-refused8 → tie.After-unless-refused8
+after-unless-refused8 x = x
 
 abbrev after-timed-of : tie.After-timed-of → tie.After-timed-of
 after-timed-of x = x
+
+abbrev at-match-keys3 : tie.At-match-keys3 → tie.At-match-keys3
+at-match-keys3 x = x
+
+abbrev at-match-keys6 : tie.At-match-keys6 → tie.At-match-keys6
+at-match-keys6 x = x
+
+abbrev after-into-of : tie.After-into-of → tie.After-into-of
+after-into-of x = x
+
+abbrev after-wait-of : tie.After-wait-of → tie.After-wait-of
+after-wait-of x = x
+
+abbrev after-unless-refused3 : tie.After-unless-refused3 → tie.After-unless-refused3
+after-unless-refused3 x = x
+
+abbrev after-unless-refused6 : tie.After-unless-refused6 → tie.After-unless-refused6
+after-unless-refused6 x = x
 
 operation-at-requires : tie.Need-operation-at-requires
 operation-at-requires c κs = start (search) .pre .0 .inside
@@ -85,29 +103,41 @@ precede-of-requires c κs = (x-readable _ _ _ _ _ (start (search) .pre .0) _ (af
 unless-refused-requires-2 : tie.Need-unless-refused-requires-2
 unless-refused-requires-2 c κs = search needs
 
-clear-of-requires : tie.Need-clear-of-requires
-clear-of-requires c κs = x-readable _ _ _ _ _ (start (search) .pre .0) _ (after-operation-at (search) .operation-at .ensures) (λ z. omega (arith, at-match-keys3 (search) .match .keys3))
+into-of-requires : tie.Need-into-of-requires
+into-of-requires c κs = (x-readable _ _ _ _ _ (start (search) .pre .0) _ (after-operation-at (search) .operation-at .ensures) (λ z. omega (arith, at-match-keys3 (search) .match .keys3)), (y-readable _ _ _ _ _ (start (search) .pre .0) _ (after-operation-at (search) .operation-at .ensures) (λ z. omega (arith, at-match-keys3 (search) .match .keys3)), start (search) .pre .1 .1))
 
 unless-refused-requires-3 : tie.Need-unless-refused-requires-3
 unless-refused-requires-3 c κs = search needs
 
-passivate-requires : tie.Need-passivate-requires
-passivate-requires c κs = takeable _ _ _ _ _ (start (search) .pre .0)
+clear-of-requires : tie.Need-clear-of-requires
+clear-of-requires c κs = x-readable _ _ _ _ _ (start (search) .pre .0) _ (after-operation-at (search) .operation-at .ensures) (λ z. omega (arith, at-match-keys4 (search) .match .keys4))
 
 unless-refused-requires-4 : tie.Need-unless-refused-requires-4
 unless-refused-requires-4 c κs = search needs
 
-cancel-of-requires : tie.Need-cancel-of-requires
-cancel-of-requires c κs = (x-readable _ _ _ _ _ (start (search) .pre .0) _ (after-operation-at (search) .operation-at .ensures) (λ z. omega (arith, at-match-keys5 (search) .match .keys5)), judged _ _ _ _ _ (start (search) .pre .0))
+passivate-requires : tie.Need-passivate-requires
+passivate-requires c κs = takeable _ _ _ _ _ (start (search) .pre .0)
 
 unless-refused-requires-5 : tie.Need-unless-refused-requires-5
 unless-refused-requires-5 c κs = search needs
 
-timed-of-requires : tie.Need-timed-of-requires
-timed-of-requires c κs = (x-readable _ _ _ _ _ (start (search) .pre .0) _ (after-operation-at (search) .operation-at .ensures) (λ z. omega (arith, z, left-apart (recordFrom (start (search) .args .sheet .now) (start (search) .args .i)) _ (after-operation-at (search) .operation-at .ensures) (start (search) .pre .1 .0) (some _ _ _ _ _ (start (search) .pre .0) _ (after-operation-at (search) .operation-at .ensures)) (most _ _ _ _ _ (start (search) .pre .0) _ (after-operation-at (search) .operation-at .ensures)) (at-match-rest (search) .match .rest .0 .0 .0 .0 .1) (at-match-rest (search) .match .rest .0 .0 .0 .1) (at-match-rest (search) .match .rest .0 .0 .1) (at-match-rest (search) .match .rest .0 .1) (at-match-rest (search) .match .rest .1) .1)), (y-readable _ _ _ _ _ (start (search) .pre .0) _ (after-operation-at (search) .operation-at .ensures) (λ z. omega (arith, z, left-apart (recordFrom (start (search) .args .sheet .now) (start (search) .args .i)) _ (after-operation-at (search) .operation-at .ensures) (start (search) .pre .1 .0) (some _ _ _ _ _ (start (search) .pre .0) _ (after-operation-at (search) .operation-at .ensures)) (most _ _ _ _ _ (start (search) .pre .0) _ (after-operation-at (search) .operation-at .ensures)) (at-match-rest (search) .match .rest .0 .0 .0 .0 .1) (at-match-rest (search) .match .rest .0 .0 .0 .1) (at-match-rest (search) .match .rest .0 .0 .1) (at-match-rest (search) .match .rest .0 .1) (at-match-rest (search) .match .rest .1) .1)), judged _ _ _ _ _ (start (search) .pre .0)))
+wait-of-requires : tie.Need-wait-of-requires
+wait-of-requires c κs = (y-readable _ _ _ _ _ (start (search) .pre .0) _ (after-operation-at (search) .operation-at .ensures) (λ z. omega (arith, at-match-keys6 (search) .match .keys6)), (takeable _ _ _ _ _ (start (search) .pre .0), start (search) .pre .1 .1))
 
 unless-refused-requires-6 : tie.Need-unless-refused-requires-6
 unless-refused-requires-6 c κs = search needs
+
+cancel-of-requires : tie.Need-cancel-of-requires
+cancel-of-requires c κs = (x-readable _ _ _ _ _ (start (search) .pre .0) _ (after-operation-at (search) .operation-at .ensures) (λ z. omega (arith, at-match-keys7 (search) .match .keys7)), judged _ _ _ _ _ (start (search) .pre .0))
+
+unless-refused-requires-7 : tie.Need-unless-refused-requires-7
+unless-refused-requires-7 c κs = search needs
+
+timed-of-requires : tie.Need-timed-of-requires
+timed-of-requires c κs = (x-readable _ _ _ _ _ (start (search) .pre .0) _ (after-operation-at (search) .operation-at .ensures) (λ z. omega (arith, z, left-apart (recordFrom (start (search) .args .sheet .now) (start (search) .args .i)) _ (after-operation-at (search) .operation-at .ensures) (start (search) .pre .1 .0) (some _ _ _ _ _ (start (search) .pre .0) _ (after-operation-at (search) .operation-at .ensures)) (most _ _ _ _ _ (start (search) .pre .0) _ (after-operation-at (search) .operation-at .ensures)) (at-match-rest (search) .match .rest .0 .0 .0 .0 .0 .0 .1) (at-match-rest (search) .match .rest .0 .0 .0 .0 .0 .1) (at-match-rest (search) .match .rest .0 .0 .0 .0 .1) (at-match-rest (search) .match .rest .0 .0 .0 .1) (at-match-rest (search) .match .rest .0 .0 .1) (at-match-rest (search) .match .rest .0 .1) (at-match-rest (search) .match .rest .1) .1)), (y-readable _ _ _ _ _ (start (search) .pre .0) _ (after-operation-at (search) .operation-at .ensures) (λ z. omega (arith, z, left-apart (recordFrom (start (search) .args .sheet .now) (start (search) .args .i)) _ (after-operation-at (search) .operation-at .ensures) (start (search) .pre .1 .0) (some _ _ _ _ _ (start (search) .pre .0) _ (after-operation-at (search) .operation-at .ensures)) (most _ _ _ _ _ (start (search) .pre .0) _ (after-operation-at (search) .operation-at .ensures)) (at-match-rest (search) .match .rest .0 .0 .0 .0 .0 .0 .1) (at-match-rest (search) .match .rest .0 .0 .0 .0 .0 .1) (at-match-rest (search) .match .rest .0 .0 .0 .0 .1) (at-match-rest (search) .match .rest .0 .0 .0 .1) (at-match-rest (search) .match .rest .0 .0 .1) (at-match-rest (search) .match .rest .0 .1) (at-match-rest (search) .match .rest .1) .1)), judged _ _ _ _ _ (start (search) .pre .0)))
+
+unless-refused-requires-8 : tie.Need-unless-refused-requires-8
+unless-refused-requires-8 c κs = search needs
 
 same-length : tie.Need-same-length
 same-length c = search needs
@@ -130,17 +160,17 @@ returns-2 c = (λ w. arm-3 (start (search) .args .c) (recordFrom (start (search)
 same-length-5 : tie.Need-same-length-5
 same-length-5 c = search needs
 
-returns-3 : tie.Need-returns-3
-returns-3 c = (λ w. arm-5 (start (search) .args .c) (recordFrom (start (search) .args .sheet .now) (start (search) .args .i)) (start (search) .args .f) (start (search) .args .links .now) (start (search) .args .axis .now) (start (search) .args .times .now) (start (search) .args .marks .now) w _ _ _ (after-unless-refused3 (search) .unless-refused3 .ensures) (sym (after-operation-at (search) .operation-at .ensures) ∙ at-match-keys3 (search) .match .keys3) (after-clear-of (search) .clear-of .ensures), λ w. covers-clear-step _ _ _ (start (search) .pre .1 .1) w _ _ (after-clear-of (search) .clear-of .ensures))
-
 same-length-6 : tie.Need-same-length-6
 same-length-6 c = search needs
+
+returns-3 : tie.Need-returns-3
+returns-3 c = (λ w. arm-4 (start (search) .args .c) (recordFrom (start (search) .args .sheet .now) (start (search) .args .i)) (start (search) .args .f) (start (search) .args .links .now) (start (search) .args .axis .now) (start (search) .args .times .now) (start (search) .args .marks .now) w _ _ _ (after-unless-refused3 (search) .unless-refused3 .ensures) (sym (after-operation-at (search) .operation-at .ensures) ∙ at-match-keys3 (search) .match .keys3) (after-into-of (search) .into-of .ensures .moved), after-into-of (search) .into-of .ensures .covers)
 
 same-length-7 : tie.Need-same-length-7
 same-length-7 c = search needs
 
 returns-4 : tie.Need-returns-4
-returns-4 c = (λ w. arm-7 (start (search) .args .c) (recordFrom (start (search) .args .sheet .now) (start (search) .args .i)) (start (search) .args .f) (start (search) .args .links .now) (start (search) .args .axis .now) (start (search) .args .times .now) (start (search) .args .marks .now) w _ _ _ _ (after-unless-refused4 (search) .unless-refused4 .ensures) (sym (after-operation-at (search) .operation-at .ensures) ∙ at-match-keys4 (search) .match .keys4) (after-passivate (search) .passivate .ensures), λ w. start (search) .pre .1 .1)
+returns-4 c = (λ w. arm-5 (start (search) .args .c) (recordFrom (start (search) .args .sheet .now) (start (search) .args .i)) (start (search) .args .f) (start (search) .args .links .now) (start (search) .args .axis .now) (start (search) .args .times .now) (start (search) .args .marks .now) w _ _ _ (after-unless-refused4 (search) .unless-refused4 .ensures) (sym (after-operation-at (search) .operation-at .ensures) ∙ at-match-keys4 (search) .match .keys4) (after-clear-of (search) .clear-of .ensures), λ w. covers-clear-step _ _ _ (start (search) .pre .1 .1) w _ _ (after-clear-of (search) .clear-of .ensures))
 
 same-length-8 : tie.Need-same-length-8
 same-length-8 c = search needs
@@ -148,11 +178,11 @@ same-length-8 c = search needs
 same-length-9 : tie.Need-same-length-9
 same-length-9 c = search needs
 
+returns-5 : tie.Need-returns-5
+returns-5 c = (λ w. arm-7 (start (search) .args .c) (recordFrom (start (search) .args .sheet .now) (start (search) .args .i)) (start (search) .args .f) (start (search) .args .links .now) (start (search) .args .axis .now) (start (search) .args .times .now) (start (search) .args .marks .now) w _ _ _ _ (after-unless-refused5 (search) .unless-refused5 .ensures) (sym (after-operation-at (search) .operation-at .ensures) ∙ at-match-keys5 (search) .match .keys5) (after-passivate (search) .passivate .ensures), λ w. start (search) .pre .1 .1)
+
 same-length-10 : tie.Need-same-length-10
 same-length-10 c = search needs
-
-returns-5 : tie.Need-returns-5
-returns-5 c = (λ w. arm-9 (start (search) .args .c) (recordFrom (start (search) .args .sheet .now) (start (search) .args .i)) (start (search) .args .f) (start (search) .args .links .now) (start (search) .args .axis .now) (start (search) .args .times .now) (start (search) .args .marks .now) w _ _ _ _ (after-unless-refused5 (search) .unless-refused5 .ensures) (sym (after-operation-at (search) .operation-at .ensures) ∙ at-match-keys5 (search) .match .keys5) (after-cancel-of (search) .cancel-of .ensures), λ w. start (search) .pre .1 .1)
 
 same-length-11 : tie.Need-same-length-11
 same-length-11 c = search needs
@@ -164,7 +194,31 @@ same-length-13 : tie.Need-same-length-13
 same-length-13 c = search needs
 
 returns-6 : tie.Need-returns-6
-returns-6 c = (λ w. arm-timed-as (start (search) .args .c) (recordFrom (start (search) .args .sheet .now) (start (search) .args .i)) (start (search) .args .f) (start (search) .args .links .now) (start (search) .args .axis .now) (start (search) .args .times .now) (start (search) .args .marks .now) w _ _ _ _ (after-unless-refused6 (search) .unless-refused6 .ensures) _ (after-operation-at (search) .operation-at .ensures) (omega (arith, after-operation-at (search) .operation-at .ensures, left-apart (recordFrom (start (search) .args .sheet .now) (start (search) .args .i)) _ (after-operation-at (search) .operation-at .ensures) (start (search) .pre .1 .0) (some _ _ _ _ _ (start (search) .pre .0) _ (after-operation-at (search) .operation-at .ensures)) (most _ _ _ _ _ (start (search) .pre .0) _ (after-operation-at (search) .operation-at .ensures)) (at-match-rest (search) .match .rest .0 .0 .0 .0 .1) (at-match-rest (search) .match .rest .0 .0 .0 .1) (at-match-rest (search) .match .rest .0 .0 .1) (at-match-rest (search) .match .rest .0 .1) (at-match-rest (search) .match .rest .1) .0)) (omega (arith, after-operation-at (search) .operation-at .ensures, left-apart (recordFrom (start (search) .args .sheet .now) (start (search) .args .i)) _ (after-operation-at (search) .operation-at .ensures) (start (search) .pre .1 .0) (some _ _ _ _ _ (start (search) .pre .0) _ (after-operation-at (search) .operation-at .ensures)) (most _ _ _ _ _ (start (search) .pre .0) _ (after-operation-at (search) .operation-at .ensures)) (at-match-rest (search) .match .rest .0 .0 .0 .0 .1) (at-match-rest (search) .match .rest .0 .0 .0 .1) (at-match-rest (search) .match .rest .0 .0 .1) (at-match-rest (search) .match .rest .0 .1) (at-match-rest (search) .match .rest .1) .1)) (after-timed-of (search) .timed-of .ensures), λ w. start (search) .pre .1 .1)
+returns-6 c = (λ w. arm-8 (start (search) .args .c) (recordFrom (start (search) .args .sheet .now) (start (search) .args .i)) (start (search) .args .f) (start (search) .args .links .now) (start (search) .args .axis .now) (start (search) .args .times .now) (start (search) .args .marks .now) w _ _ _ _ (after-unless-refused6 (search) .unless-refused6 .ensures) _ (sym (after-operation-at (search) .operation-at .ensures) ∙ at-match-keys6 (search) .match .keys6) (after-wait-of (search) .wait-of .ensures .waited), after-wait-of (search) .wait-of .ensures .covers)
+
+same-length-14 : tie.Need-same-length-14
+same-length-14 c = search needs
+
+same-length-15 : tie.Need-same-length-15
+same-length-15 c = search needs
+
+same-length-16 : tie.Need-same-length-16
+same-length-16 c = search needs
+
+returns-7 : tie.Need-returns-7
+returns-7 c = (λ w. arm-9 (start (search) .args .c) (recordFrom (start (search) .args .sheet .now) (start (search) .args .i)) (start (search) .args .f) (start (search) .args .links .now) (start (search) .args .axis .now) (start (search) .args .times .now) (start (search) .args .marks .now) w _ _ _ _ (after-unless-refused7 (search) .unless-refused7 .ensures) (sym (after-operation-at (search) .operation-at .ensures) ∙ at-match-keys7 (search) .match .keys7) (after-cancel-of (search) .cancel-of .ensures), λ w. start (search) .pre .1 .1)
+
+same-length-17 : tie.Need-same-length-17
+same-length-17 c = search needs
+
+same-length-18 : tie.Need-same-length-18
+same-length-18 c = search needs
+
+same-length-19 : tie.Need-same-length-19
+same-length-19 c = search needs
+
+returns-8 : tie.Need-returns-8
+returns-8 c = (λ w. arm-timed-as (start (search) .args .c) (recordFrom (start (search) .args .sheet .now) (start (search) .args .i)) (start (search) .args .f) (start (search) .args .links .now) (start (search) .args .axis .now) (start (search) .args .times .now) (start (search) .args .marks .now) w _ _ _ _ (after-unless-refused8 (search) .unless-refused8 .ensures) _ (after-operation-at (search) .operation-at .ensures) (omega (arith, after-operation-at (search) .operation-at .ensures, left-apart (recordFrom (start (search) .args .sheet .now) (start (search) .args .i)) _ (after-operation-at (search) .operation-at .ensures) (start (search) .pre .1 .0) (some _ _ _ _ _ (start (search) .pre .0) _ (after-operation-at (search) .operation-at .ensures)) (most _ _ _ _ _ (start (search) .pre .0) _ (after-operation-at (search) .operation-at .ensures)) (at-match-rest (search) .match .rest .0 .0 .0 .0 .0 .0 .1) (at-match-rest (search) .match .rest .0 .0 .0 .0 .0 .1) (at-match-rest (search) .match .rest .0 .0 .0 .0 .1) (at-match-rest (search) .match .rest .0 .0 .0 .1) (at-match-rest (search) .match .rest .0 .0 .1) (at-match-rest (search) .match .rest .0 .1) (at-match-rest (search) .match .rest .1) .0)) (omega (arith, after-operation-at (search) .operation-at .ensures, left-apart (recordFrom (start (search) .args .sheet .now) (start (search) .args .i)) _ (after-operation-at (search) .operation-at .ensures) (start (search) .pre .1 .0) (some _ _ _ _ _ (start (search) .pre .0) _ (after-operation-at (search) .operation-at .ensures)) (most _ _ _ _ _ (start (search) .pre .0) _ (after-operation-at (search) .operation-at .ensures)) (at-match-rest (search) .match .rest .0 .0 .0 .0 .0 .0 .1) (at-match-rest (search) .match .rest .0 .0 .0 .0 .0 .1) (at-match-rest (search) .match .rest .0 .0 .0 .0 .1) (at-match-rest (search) .match .rest .0 .0 .0 .1) (at-match-rest (search) .match .rest .0 .0 .1) (at-match-rest (search) .match .rest .0 .1) (at-match-rest (search) .match .rest .1) .1)) (after-timed-of (search) .timed-of .ensures), λ w. start (search) .pre .1 .1)
 
 pub apart-at-spec : {M : Type 1} → statement M
 apart-at-spec =
@@ -175,14 +229,18 @@ apart-at-spec =
     unless-refused-requires
     precede-of-requires
     unless-refused-requires-2
-    clear-of-requires
+    into-of-requires
     unless-refused-requires-3
-    passivate-requires
+    clear-of-requires
     unless-refused-requires-4
-    cancel-of-requires
+    passivate-requires
     unless-refused-requires-5
-    timed-of-requires
+    wait-of-requires
     unless-refused-requires-6
+    cancel-of-requires
+    unless-refused-requires-7
+    timed-of-requires
+    unless-refused-requires-8
     same-length
     same-length-2
     returns
@@ -190,15 +248,23 @@ apart-at-spec =
     same-length-4
     returns-2
     same-length-5
-    returns-3
     same-length-6
+    returns-3
     same-length-7
     returns-4
     same-length-8
     same-length-9
-    same-length-10
     returns-5
+    same-length-10
     same-length-11
     same-length-12
     same-length-13
-    returns-6)
+    returns-6
+    same-length-14
+    same-length-15
+    same-length-16
+    returns-7
+    same-length-17
+    same-length-18
+    same-length-19
+    returns-8)

@@ -23,7 +23,7 @@ abbrev after-perform-at : tie.After-perform-at → tie.After-perform-at
 after-perform-at x = x
 
 returns : tie.Need-returns
-returns c = (tried-not _ _ _ _ _ (left-0 _ (recordGot (start (search) .args .c .processes) (start (search) .args .sheet .now) (start (search) .args .r)) _ _ (ap (λ (q : Record). q .operation) (sym (got-end _ _ _ (c .if1 .taken))))), λ w. start (search) .pre .1)
+returns c = (tried-not _ _ _ _ _ _ (left-0 _ (recordGot (start (search) .args .c .processes) (start (search) .args .sheet .now) (start (search) .args .r)) _ _ _ (ap (λ (q : Record). q .operation) (sym (got-end _ _ _ (c .if1 .taken))))), λ w. start (search) .pre .1)
 
 record-offset-requires : tie.Need-record-offset-requires
 record-offset-requires c κs = omega (arith, c .if1 .left)
@@ -47,7 +47,7 @@ same-length-5 : tie.Need-same-length-5
 same-length-5 c = search needs
 
 returns-2 : tie.Need-returns-2
-returns-2 c = (tried-at _ _ _ _ (else1 (search) .if1 .left) (after-record-offset (search) .record-offset .ensures) _ _ _ _ (after-perform-at (search) .perform-at .ensures .0), after-perform-at (search) .perform-at .ensures .1)
+returns-2 c = (tried-at _ _ _ _ (else1 (search) .if1 .left) (after-record-offset (search) .record-offset .ensures) _ _ _ _ (start (search) .args .bounds .now) (after-perform-at (search) .perform-at .ensures .0), after-perform-at (search) .perform-at .ensures .1)
 
 pub perform-spec : {M : Type 1} → statement M
 perform-spec =

@@ -34,7 +34,7 @@ process-or-none-requires : tie.Need-process-or-none-requires
 process-or-none-requires c κs = search needs
 
 returns : tie.Need-returns
-returns c = λ w. soon-left _ _ _ _ _ _ _ w (start (search) .pre .1 .1 .0) _ (after-x-of (search) .x-of .ensures) _ (c .before .process-or-none .ensures) (c .if1 .taken)
+returns c = λ known w. soon-left _ _ _ _ _ _ _ w known (start (search) .pre .1 .1 .0) _ (after-x-of (search) .x-of .ensures) _ (c .before .process-or-none .ensures) (c .if1 .taken)
 
 t-at-requires : tie.Need-t-at-requires
 t-at-requires c κs = start (search) .pre .0 .inside
@@ -52,7 +52,7 @@ same-length-2 : tie.Need-same-length-2
 same-length-2 c = search needs
 
 returns-2 : tie.Need-returns-2
-returns-2 c = λ w. soon-delayed _ _ _ _ _ _ _ w (start (search) .pre .1 .1 .0) _ (after-x-of (search) .x-of .ensures) _ (asked (search) .process-or-none .ensures) (else1 (search) .if1 .left) _ _ _ _ (c .unless-refused .ensures) (start (search) .pre .1 .1 .1) (rw (toZ-ofZ w64 _ (record { sfits = after-t-at (search) .t-at .ok }) ∙ after-t-at (search) .t-at .ensures) at (made (search) .activate-after .ensures))
+returns-2 c = λ known w. soon-delayed _ _ _ _ _ _ _ w known (start (search) .pre .1 .1 .0) _ (after-x-of (search) .x-of .ensures) _ (asked (search) .process-or-none .ensures) (else1 (search) .if1 .left) _ _ _ _ (c .unless-refused .ensures) (start (search) .pre .1 .1 .1) (rw (toZ-ofZ w64 _ (record { sfits = after-t-at (search) .t-at .ok }) ∙ after-t-at (search) .t-at .ensures) at (made (search) .activate-after .ensures))
 
 pub delayed-of-spec : {M : Type 1} → statement M
 delayed-of-spec =

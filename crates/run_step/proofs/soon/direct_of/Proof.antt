@@ -29,7 +29,7 @@ process-or-none-requires : tie.Need-process-or-none-requires
 process-or-none-requires c κs = search needs
 
 returns : tie.Need-returns
-returns c = λ w. soon-left _ _ _ _ _ _ _ w (start (search) .pre .1 .1 .0) _ (after-x-of (search) .x-of .ensures) _ (c .before .process-or-none .ensures) (c .if1 .taken)
+returns c = λ known w. soon-left _ _ _ _ _ _ _ w known (start (search) .pre .1 .1 .0) _ (after-x-of (search) .x-of .ensures) _ (c .before .process-or-none .ensures) (c .if1 .taken)
 
 activate-now-requires : tie.Need-activate-now-requires
 activate-now-requires c κs = (judged _ _ _ _ _ (start (search) .pre .0), start (search) .pre .1 .0)
@@ -44,7 +44,7 @@ same-length-2 : tie.Need-same-length-2
 same-length-2 c = search needs
 
 returns-2 : tie.Need-returns-2
-returns-2 c = λ w. soon-direct _ _ _ _ _ _ _ w (start (search) .pre .1 .1 .0) _ (after-x-of (search) .x-of .ensures) _ (asked (search) .process-or-none .ensures) (else1 (search) .if1 .left) _ _ _ _ (c .unless-refused .ensures) (start (search) .pre .1 .1 .1) (made (search) .activate-now .ensures)
+returns-2 c = λ known w. soon-direct _ _ _ _ _ _ _ w known (start (search) .pre .1 .1 .0) _ (after-x-of (search) .x-of .ensures) _ (asked (search) .process-or-none .ensures) (else1 (search) .if1 .left) _ _ _ _ (c .unless-refused .ensures) (start (search) .pre .1 .1 .1) (made (search) .activate-now .ensures)
 
 pub direct-of-spec : {M : Type 1} → statement M
 direct-of-spec =

@@ -113,7 +113,7 @@ loop-less : tie.Need-loop-less Inv-loop μ-loop
 loop-less c = omega (arith, in-loop (search) .loop-test .taken)
 
 loop-again : tie.Need-loop-again Inv-loop μ-loop
-loop-again c = (stays _ _ _ _ _ _ _ _ _ _ _ _ _ _ (at-loop (search) .loop .inv .0) (in-loop (search) .loop-test .taken) _ (after-perform (search) .perform .ensures .0) (ap isApart (after-enum-told (search) .enum-told .given .1)) _ (to-next _ _ _ Stays refl (after-enum-told (search) .enum-told .given .1) (c .next-of .ensures)) _ (after-write (search) .write .kept .1 .0) (ap stayed (after-enum-told (search) .enum-told .given .1)) (after-write (search) .write .ensures), after-perform (search) .perform .ensures .1 (its-linking _ _ _ _ _ _ _ _ _ _ _ _ _ _ (at-loop (search) .loop .inv .0)), (after-perform (search) .perform .kept .1 .1 .1 .1 .1 .1 .1 .1 .1 .1 .0) ∙ at-loop (search) .loop .inv .2)
+loop-again c = (stays _ _ _ _ _ _ _ _ _ _ _ _ _ _ (at-loop (search) .loop .inv .0) (in-loop (search) .loop-test .taken) _ _ (after-perform (search) .perform .ensures .0) (ap isApart (after-enum-told (search) .enum-told .given .1)) _ (to-next _ _ _ Stays refl (after-enum-told (search) .enum-told .given .1) (c .next-of .ensures)) _ (after-write (search) .write .kept .1 .0) (ap stayed (after-enum-told (search) .enum-told .given .1)) (after-write (search) .write .ensures), after-perform (search) .perform .ensures .1 (its-linking _ _ _ _ _ _ _ _ _ _ _ _ _ _ (at-loop (search) .loop .inv .0)), (after-perform (search) .perform .kept .1 .1 .1 .1 .1 .1 .1 .1 .1 .1 .0) ∙ at-loop (search) .loop .inv .2)
 
 enum-known-y : tie.Need-enum-known-y Inv-loop μ-loop
 enum-known-y c = search needs
@@ -128,7 +128,7 @@ loop-less-2 : tie.Need-loop-less-2 Inv-loop μ-loop
 loop-less-2 c = omega (arith, in-loop (search) .loop-test .taken)
 
 loop-again-2 : tie.Need-loop-again-2 Inv-loop μ-loop
-loop-again-2 c = (stays _ _ _ _ _ _ _ _ _ _ _ _ _ _ (at-loop (search) .loop .inv .0) (in-loop (search) .loop-test .taken) _ (after-perform (search) .perform .ensures .0) (ap isApart (after-y (search) .y .given .1)) _ (jumps-to _ _ _ (after-y (search) .y .given .1)) _ (c .before .before .write2 .kept .1 .0) (ap stayed (after-y (search) .y .given .1)) (c .before .before .write2 .ensures), after-perform (search) .perform .ensures .1 (its-linking _ _ _ _ _ _ _ _ _ _ _ _ _ _ (at-loop (search) .loop .inv .0)), (after-perform (search) .perform .kept .1 .1 .1 .1 .1 .1 .1 .1 .1 .1 .0) ∙ at-loop (search) .loop .inv .2)
+loop-again-2 c = (stays _ _ _ _ _ _ _ _ _ _ _ _ _ _ (at-loop (search) .loop .inv .0) (in-loop (search) .loop-test .taken) _ _ (after-perform (search) .perform .ensures .0) (ap isApart (after-y (search) .y .given .1)) _ (jumps-to _ _ _ (after-y (search) .y .given .1)) _ (c .before .before .write2 .kept .1 .0) (ap stayed (after-y (search) .y .given .1)) (c .before .before .write2 .ensures), after-perform (search) .perform .ensures .1 (its-linking _ _ _ _ _ _ _ _ _ _ _ _ _ _ (at-loop (search) .loop .inv .0)), (after-perform (search) .perform .kept .1 .1 .1 .1 .1 .1 .1 .1 .1 .1 .0) ∙ at-loop (search) .loop .inv .2)
 
 enum-told-2 : tie.Need-enum-told-2 Inv-loop μ-loop
 enum-told-2 c = search needs
@@ -140,13 +140,13 @@ move-on-requires : tie.Need-move-on-requires Inv-loop μ-loop
 move-on-requires c κs = (in-table _ _ _ _ _ _ _ _ _ _ _ _ _ _ (at-loop (search) .loop .inv .0), (its-number _ _ _ _ _ _ _ _ _ _ _ _ _ _ (at-loop (search) .loop .inv .0), line-in _ _ _ _ _ _ _ _ _ _ (at-loop (search) .loop .inv .0 .counting) (in-loop (search) .loop-test .taken)))
 
 place-now-requires-2 : tie.Need-place-now-requires-2 Inv-loop μ-loop
-place-now-requires-2 c κs = its-judged _ _ _ (stands-on _ _ _ _ _ _ _ _ _ _ _ _ _ _ (at-loop (search) .loop .inv .0) (in-loop (search) .loop-test .taken) _ (after-perform (search) .perform .ensures .0) (ap isApart (after-enum-told2 (search) .enum-told2 .given .1)) _ (to-next _ _ _ Moves refl (after-enum-told2 (search) .enum-told2 .given .1) (after-next-of2 (search) .next-of2 .ensures)) _ (after-move-on (search) .move-on .kept .1 .1 .0) _ (after-move-on (search) .move-on .ensures))
+place-now-requires-2 c κs = its-judged _ _ _ (stands-on _ _ _ _ _ _ _ _ _ _ _ _ _ _ (at-loop (search) .loop .inv .0) (in-loop (search) .loop-test .taken) _ _ (after-perform (search) .perform .ensures .0) (ap isApart (after-enum-told2 (search) .enum-told2 .given .1)) _ (to-next _ _ _ Moves refl (after-enum-told2 (search) .enum-told2 .given .1) (after-next-of2 (search) .next-of2 .ensures)) _ (after-move-on (search) .move-on .kept .1 .1 .0) _ (after-move-on (search) .move-on .ensures))
 
 position-requires : tie.Need-position-requires Inv-loop μ-loop
-position-requires c κs = (in-positions _ _ _ (stands-on _ _ _ _ _ _ _ _ _ _ _ _ _ _ (loop-from-perform (search) .loop .inv .0) (in-loop-from-perform (search) .loop-test .taken) _ (after-perform (search) .perform .ensures .0) (ap isApart (after-enum-told2 (search) .enum-told2 .given .1)) _ (to-next _ _ _ Moves refl (after-enum-told2 (search) .enum-told2 .given .1) (after-next-of2 (search) .next-of2 .ensures)) _ (after-move-on (search) .move-on .kept .1 .1 .0) _ (after-move-on (search) .move-on .ensures)) _ (c .before .place-now2 .ensures), next-kept _ _ _ _ _ _ _ _ _ _ _ _ _ _ (loop-from-perform (search) .loop .inv .0) (in-loop-from-perform (search) .loop-test .taken) _ (after-perform (search) .perform .ensures .0) (ap isApart (after-enum-told2 (search) .enum-told2 .given .1)) _ (to-next _ _ _ Moves refl (after-enum-told2 (search) .enum-told2 .given .1) (after-next-of2 (search) .next-of2 .ensures)) _ (after-move-on (search) .move-on .kept .1 .1 .0) _ (after-move-on (search) .move-on .ensures))
+position-requires c κs = (in-positions _ _ _ (stands-on _ _ _ _ _ _ _ _ _ _ _ _ _ _ (loop-from-perform (search) .loop .inv .0) (in-loop-from-perform (search) .loop-test .taken) _ _ (after-perform (search) .perform .ensures .0) (ap isApart (after-enum-told2 (search) .enum-told2 .given .1)) _ (to-next _ _ _ Moves refl (after-enum-told2 (search) .enum-told2 .given .1) (after-next-of2 (search) .next-of2 .ensures)) _ (after-move-on (search) .move-on .kept .1 .1 .0) _ (after-move-on (search) .move-on .ensures)) _ (c .before .place-now2 .ensures), next-kept _ _ _ _ _ _ _ _ _ _ _ _ _ _ (loop-from-perform (search) .loop .inv .0) (in-loop-from-perform (search) .loop-test .taken) _ _ (after-perform (search) .perform .ensures .0) (ap isApart (after-enum-told2 (search) .enum-told2 .given .1)) _ (to-next _ _ _ Moves refl (after-enum-told2 (search) .enum-told2 .given .1) (after-next-of2 (search) .next-of2 .ensures)) _ (after-move-on (search) .move-on .kept .1 .1 .0) _ (after-move-on (search) .move-on .ensures))
 
 time-of-requires-2 : tie.Need-time-of-requires-2 Inv-loop μ-loop
-time-of-requires-2 c κs = in-times _ _ _ (stands-on _ _ _ _ _ _ _ _ _ _ _ _ _ _ (loop-from-perform (search) .loop .inv .0) (in-loop-from-perform (search) .loop-test .taken) _ (after-perform (search) .perform .ensures .0) (ap isApart (after-enum-told2 (search) .enum-told2 .given .1)) _ (to-next _ _ _ Moves refl (after-enum-told2 (search) .enum-told2 .given .1) (after-next-of2 (search) .next-of2 .ensures)) _ (after-move-on (search) .move-on .kept .1 .1 .0) _ (after-move-on (search) .move-on .ensures)) _ (after-place-now2 (search) .place-now2 .ensures)
+time-of-requires-2 c κs = in-times _ _ _ (stands-on _ _ _ _ _ _ _ _ _ _ _ _ _ _ (loop-from-perform (search) .loop .inv .0) (in-loop-from-perform (search) .loop-test .taken) _ _ (after-perform (search) .perform .ensures .0) (ap isApart (after-enum-told2 (search) .enum-told2 .given .1)) _ (to-next _ _ _ Moves refl (after-enum-told2 (search) .enum-told2 .given .1) (after-next-of2 (search) .next-of2 .ensures)) _ (after-move-on (search) .move-on .kept .1 .1 .0) _ (after-move-on (search) .move-on .ensures)) _ (after-place-now2 (search) .place-now2 .ensures)
 
 add-at-3 : tie.Need-add-at-3 Inv-loop μ-loop
 add-at-3 c = omega (arith, few-bytes _ _ _ _ _ _ _ _ _ _ (loop-from-perform (search) .loop .inv .0 .counting))
@@ -155,7 +155,7 @@ loop-less-3 : tie.Need-loop-less-3 Inv-loop μ-loop
 loop-less-3 c = omega (arith, in-loop-from-perform (search) .loop-test .taken)
 
 loop-again-3 : tie.Need-loop-again-3 Inv-loop μ-loop
-loop-again-3 c = (moves _ _ _ _ _ _ _ _ _ _ _ _ _ _ (loop-from-perform (search) .loop .inv .0) (in-loop-from-perform (search) .loop-test .taken) _ (after-perform (search) .perform .ensures .0) (ap isApart (after-enum-told2 (search) .enum-told2 .given .1)) _ (to-next _ _ _ Moves refl (after-enum-told2 (search) .enum-told2 .given .1) (after-next-of2 (search) .next-of2 .ensures)) _ (after-move-on (search) .move-on .kept .1 .1 .0) _ (after-move-on (search) .move-on .ensures) _ _ _ (after-place-now2 (search) .place-now2 .ensures) (c .time-of2 .ensures) (c .before .before .position .ensures), after-perform (search) .perform .ensures .1 (its-linking _ _ _ _ _ _ _ _ _ _ _ _ _ _ (loop-from-perform (search) .loop .inv .0)), (after-perform (search) .perform .kept .1 .1 .1 .1 .1 .1 .1 .1 .1 .1 .0) ∙ loop-from-perform (search) .loop .inv .2)
+loop-again-3 c = (moves _ _ _ _ _ _ _ _ _ _ _ _ _ _ (loop-from-perform (search) .loop .inv .0) (in-loop-from-perform (search) .loop-test .taken) _ _ (after-perform (search) .perform .ensures .0) (ap isApart (after-enum-told2 (search) .enum-told2 .given .1)) _ (to-next _ _ _ Moves refl (after-enum-told2 (search) .enum-told2 .given .1) (after-next-of2 (search) .next-of2 .ensures)) _ (after-move-on (search) .move-on .kept .1 .1 .0) _ (after-move-on (search) .move-on .ensures) _ _ _ (after-place-now2 (search) .place-now2 .ensures) (c .time-of2 .ensures) (c .before .before .position .ensures), after-perform (search) .perform .ensures .1 (its-linking _ _ _ _ _ _ _ _ _ _ _ _ _ _ (loop-from-perform (search) .loop .inv .0)), (after-perform (search) .perform .kept .1 .1 .1 .1 .1 .1 .1 .1 .1 .1 .0) ∙ loop-from-perform (search) .loop .inv .2)
 
 enum-told-3 : tie.Need-enum-told-3 Inv-loop μ-loop
 enum-told-3 c = search needs
@@ -185,7 +185,7 @@ same-length-7 : tie.Need-same-length-7 Inv-loop μ-loop
 same-length-7 c = (after-perform (search) .perform .kept .1 .1 .1 .1 .1 .1 .1 .1 .1 .1 .0) ∙ at-loop (search) .loop .inv .2
 
 returns : tie.Need-returns Inv-loop μ-loop
-returns c = (waits _ _ _ _ _ _ _ _ _ _ _ _ _ _ (at-loop (search) .loop .inv .0) (in-loop (search) .loop-test .taken) _ (after-perform (search) .perform .ensures .0) (ap isApart (after-enum-told3 (search) .enum-told3 .given .1)) _ (c .before .before .place .ensures), after-perform (search) .perform .ensures .1 (its-linking _ _ _ _ _ _ _ _ _ _ _ _ _ _ (at-loop (search) .loop .inv .0)))
+returns c = (waits _ _ _ _ _ _ _ _ _ _ _ _ _ _ (at-loop (search) .loop .inv .0) (in-loop (search) .loop-test .taken) _ _ (after-perform (search) .perform .ensures .0) (ap isApart (after-enum-told3 (search) .enum-told3 .given .1)) _ (c .before .before .place .ensures), after-perform (search) .perform .ensures .1 (its-linking _ _ _ _ _ _ _ _ _ _ _ _ _ _ (at-loop (search) .loop .inv .0)))
 
 enum-known-q : tie.Need-enum-known-q Inv-loop μ-loop
 enum-known-q c = search needs
@@ -215,7 +215,7 @@ same-length-14 : tie.Need-same-length-14 Inv-loop μ-loop
 same-length-14 c = (after-perform (search) .perform .kept .1 .1 .1 .1 .1 .1 .1 .1 .1 .1 .0) ∙ at-loop (search) .loop .inv .2
 
 returns-2 : tie.Need-returns-2 Inv-loop μ-loop
-returns-2 c = (stopped _ _ _ _ _ _ _ _ _ _ _ _ _ _ (at-loop (search) .loop .inv .0) (in-loop (search) .loop-test .taken) _ (after-perform (search) .perform .ensures .0) (ap isApart (after-q (search) .q .given .1)) _ (after-q (search) .q .given .1) _ (c .before .before .place2 .ensures), after-perform (search) .perform .ensures .1 (its-linking _ _ _ _ _ _ _ _ _ _ _ _ _ _ (at-loop (search) .loop .inv .0)))
+returns-2 c = (stopped _ _ _ _ _ _ _ _ _ _ _ _ _ _ (at-loop (search) .loop .inv .0) (in-loop (search) .loop-test .taken) _ _ (after-perform (search) .perform .ensures .0) (ap isApart (after-q (search) .q .given .1)) _ (after-q (search) .q .given .1) _ (c .before .before .place2 .ensures), after-perform (search) .perform .ensures .1 (its-linking _ _ _ _ _ _ _ _ _ _ _ _ _ _ (at-loop (search) .loop .inv .0)))
 
 place-requires-3 : tie.Need-place-requires-3 Inv-loop μ-loop
 place-requires-3 c κs = in-table _ _ _ _ _ _ _ _ _ _ _ _ _ _ (c .before .before .loop .inv .0)

@@ -1,0 +1,35 @@
+use Rattle.simulation_laws.specs.WaitPromise.{made-as}
+use borrow.Author.Needs.{needs}
+use Rattle.run_step.proofs.arms.wait_known_of.Statement.{statement}
+use Rattle.run_step.proofs.arms.wait_known_of.Tie as tie
+
+-- The places that the answers look back to: `search` finds each by its type.
+abbrev start : tie.Start → tie.Start
+start x = x
+
+abbrev after-y-of : tie.After-y-of → tie.After-y-of
+after-y-of x = x
+
+abbrev after-wait-known : tie.After-wait-known → tie.After-wait-known
+after-wait-known x = x
+
+y-of-requires : tie.Need-y-of-requires
+y-of-requires c κs = start (search) .pre .0
+
+wait-known-requires : tie.Need-wait-known-requires
+wait-known-requires c κs = (start (search) .pre .1 .0, (start (search) .pre .0 .resolvable .sound, rw (after-y-of (search) .y-of .ensures) (start (search) .pre .1 .1)))
+
+same-length : tie.Need-same-length
+same-length c = search needs
+
+same-length-2 : tie.Need-same-length-2
+same-length-2 c = search needs
+
+same-length-3 : tie.Need-same-length-3
+same-length-3 c = search needs
+
+returns : tie.Need-returns
+returns c = made-as (start (search) .args .c) _ _ _ _ _ _ _ _ (after-y-of (search) .y-of .ensures) (after-wait-known (search) .wait-known .ensures)
+
+pub wait-known-of-spec : {M : Type 1} → statement M
+wait-known-of-spec = tie.close (tie.spec y-of-requires wait-known-requires same-length same-length-2 same-length-3 returns)

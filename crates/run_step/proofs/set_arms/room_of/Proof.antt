@@ -1,0 +1,29 @@
+use Rattle.simset_laws.specs.KnownRoom.{known-as}
+use borrow.Author.Needs.{needs}
+use Rattle.run_step.proofs.set_arms.room_of.Statement.{statement}
+use Rattle.run_step.proofs.set_arms.room_of.Tie as tie
+
+-- The places that the answers look back to: `search` finds each by its type.
+abbrev start : tie.Start → tie.Start
+start x = x
+
+abbrev after-y-of : tie.After-y-of → tie.After-y-of
+after-y-of x = x
+
+abbrev after-known-room : tie.After-known-room → tie.After-known-room
+after-known-room x = x
+
+y-of-requires : tie.Need-y-of-requires
+y-of-requires c κs = start (search) .pre .0
+
+known-room-requires : tie.Need-known-room-requires
+known-room-requires c κs = start (search) .pre .1
+
+same-length : tie.Need-same-length
+same-length c = search needs
+
+returns : tie.Need-returns
+returns c = known-as (start (search) .args .c) _ _ _ _ _ (after-y-of (search) .y-of .ensures) (after-known-room (search) .known-room .ensures)
+
+pub room-of-spec : {M : Type 1} → statement M
+room-of-spec = tie.close (tie.spec y-of-requires known-room-requires same-length returns)
