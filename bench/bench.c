@@ -86,8 +86,8 @@ static int one_sheet(const char *name)
     double steps = a / 256 ? (double)(a / 256) : 1, mine = ours[ROUNDS / 2];
     const char *base = strrchr(name, '/');
     printf("%-16s %6.0f steps  %8.2f ns  other %8.2f ns  %7.1f M/s  ratio %6.3f (%.3f to %.3f)%s\n", base ? base + 1 : name, steps,
-           mine / steps, others[ROUNDS / 2] / steps, steps * 1e3 / mine, ratio[ROUNDS / 2], ratio[ROUNDS / 4], ratio[ROUNDS - 1 - ROUNDS / 4],
-           agree ? "" : "  ANSWERS DIFFER");
+           mine / steps, others[ROUNDS / 2] / steps, steps * 1e3 / mine, ratio[ROUNDS / 2], ratio[ROUNDS / 4],
+           ratio[ROUNDS - 1 - ROUNDS / 4], agree ? "" : "  ANSWERS DIFFER");
     return agree;
 }
 

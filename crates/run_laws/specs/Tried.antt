@@ -76,7 +76,8 @@ module _ (c : Counts) (q : Record) (f : ℕ) (links : List ℕ) (known : Bool) w
   unfolding left
   left-unknown n t i e k = rw (e, t, i, k)
 
-  pub here-soon : (k : ℕ) → madeSoon k ≡ true → q .operation ≡ 10 → q .clause ≡ k → atHand c q f links ≡ true → left c q f links known ≡ false
+  pub here-soon : (k : ℕ) → madeSoon k ≡ true → q .operation ≡ 10 → q .clause ≡ k → atHand c q f links ≡ true
+      → left c q f links known ≡ false
   unfolding left
   here-soon k m e z h = rw (e, z, m, h)
 
@@ -201,5 +202,9 @@ module _ (c : Counts) (q : Record) (f : ℕ) (t : Tables) (w : List ℤ) (known 
     unfolding tried
     left-of e =
         test (left c q f (t .links) known)
-        (λ a. (apart-as-left c q f (t .links) known a, ap (λ (p : Performed). p .tables) (rw a at is), ap (λ (p : Performed). p .words) (rw a at is)))
+        (λ a. (
+          apart-as-left c q f (t .links) known a,
+          ap (λ (p : Performed). p .tables) (rw a at is),
+          ap (λ (p : Performed). p .words) (rw a at is),
+        ))
         (λ a. let z : true ≡ false = sym e ∙ (rw a at told) ∙ made-here in clash (sym z))

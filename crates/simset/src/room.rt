@@ -1,5 +1,5 @@
-// Is there room for a link in a set? The sets' sizes are bounded beside the table of links, so that a set is counted only where its bound is
-// reached: a bound below 512 is at least the size, and 512 says nothing.
+// Is there room for a link in a set? The sets' sizes are bounded beside the table of links, so that a set is counted only where its bound
+// is reached: a bound below 512 is at least the size, and 512 says nothing.
 use crate::heads::head_at;
 use model::Counts;
 use ring::count;

@@ -1,5 +1,5 @@
-// The set calls on the links of a judged model: refusal 3 by the operands' kinds, for those that enter a set 10 by its room, or the procedure.
-// Runs use these too.
+// The set calls on the links of a judged model: refusal 3 by the operands' kinds, for those that enter a set 10 by its room, or the
+// procedure. Runs use these too.
 use crate::procedures;
 use crate::room::no_room;
 use model::Counts;

@@ -1,8 +1,8 @@
--- Bounds of the sets' sizes, kept beside a table of links, so that a call that enters a set need not count it: a bound below 512 is at least
--- the size of its head's set, and one of 512 says nothing.
-use Prim.Native.Nat.{ℕ, suc, _+_, _-_, _<_, _≤_}
-use mathlib.Core.Path.{_≡_, sym, ap, _∙_, subst}
-use mathlib.Core.Logic.{_≢_, inl, inr, ⊎-elim}
+-- Bounds of the sets' sizes, kept beside a table of links, so that a call that enters a set need not count it: a bound below 512 is at
+-- least the size of its head's set, and one of 512 says nothing.
+use Prim.Native.Nat.{ℕ, _+_, _-_, _<_, _≤_}
+use mathlib.Core.Path.{_≡_, sym, ap, _∙_}
+use mathlib.Core.Logic.{_≢_}
 use mathlib.Core.Bool.{true, false}
 use mathlib.Core.List.{List, _∷_}
 use native.Mathlib.Omega.{arith}
@@ -10,7 +10,7 @@ use lib.Dec.{eqb}
 use lib.ListN.{length, getD, set, replicate, length-set, length-replicate, getD-replicate}
 use lib.Seq.{getD-set-same, getD-set-other}
 use borrow.Author.Tests.{eq-eqb, ne-eqb}
-use Rattle.ring_laws.specs.Lists.{In, decide, inside, clash}
+use Rattle.ring_laws.specs.Lists.{decide, inside, clash}
 use Rattle.ring_laws.specs.Tabulate.{bit}
 use Rattle.ring_laws.specs.Rings.{Head, Link}
 use Rattle.ring_laws.specs.Table.{unlinked}
@@ -20,7 +20,6 @@ use Rattle.model_laws.specs.Tables.{setHead, membersOf, SpellsSets}
 use Rattle.simset_laws.specs.Sets.{eachSet, outSets}
 use Rattle.simset_laws.specs.Procedures.{followed, preceded, cardinalOf, cleared}
 use Rattle.simset_laws.specs.Full.{many, setAt}
-use Rattle.simset_laws.specs.Told.{headOf}
 use Rattle.simset_laws.specs.SizeLaws.{Puts, puts-behind, puts-ahead, out-few, clear-few}
 use Rattle.simset_laws.specs.Laws.{set-head, sets-out, sets-followed, sets-preceded}
 use Rattle.simset_laws.specs.ClearLaw.{sets-cleared}

@@ -1,5 +1,5 @@
--- What the code of a call that enters a set promises beside its answer: that the bounds of the sets' sizes hold after it. The other set calls
--- leave them as they are.
+-- What the code of a call that enters a set promises beside its answer: that the bounds of the sets' sizes hold after it. The other set
+-- calls leave them as they are.
 use Prim.Native.Nat.{ℕ, _+_}
 use mathlib.Core.Path.{_≡_, refl, sym, _∙_}
 use mathlib.Core.Bool.{Bool, true, false}

@@ -41,4 +41,5 @@ knownRoom c y bounds = if asksRoom c y then ltb (getD bounds y 0) mostMembers el
 
 -- its bound with one more
 unfoldable pub raised : Counts → ℕ → List ℕ → List ℕ
-raised c y bounds = if asksRoom c y then (if ltb (getD bounds y 0) mostMembers then set bounds y (getD bounds y 0 + 1) else bounds) else bounds
+raised c y bounds =
+    if asksRoom c y then (if ltb (getD bounds y 0) mostMembers then set bounds y (getD bounds y 0 + 1) else bounds) else bounds

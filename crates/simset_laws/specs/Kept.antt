@@ -36,9 +36,12 @@ entry-kept false f t u r e = refl
 links-kept : (c : Counts) (k : SetCall) (t : List ℕ) (r : Refusal) → linksAfter c k t .answer ≡ Refused r → linksAfter c k t .links ≡ t
 unfolding outStep followStep precedeStep intoStep clearStep
 links-kept c (Out x) t r e = if-kept (isLink c x) t (unlinked (total c + 1) x t) r e
-links-kept c (Follow x y) t r e = entry-kept (isLink c x && orNone (isLinkage c y) y) (fullFor c x y t) t (followed (total c + 1) x y t) r e
-links-kept c (Precede x y) t r e = entry-kept (isLink c x && orNone (isLinkage c y) y) (fullFor c x y t) t (preceded (total c + 1) x y t) r e
-links-kept c (Into x y) t r e = entry-kept (isLink c x && orNone (isHead c y) y) (fullFor c x y t) t (preceded (total c + 1) x y t) r e
+links-kept c (Follow x y) t r e =
+    entry-kept (isLink c x && orNone (isLinkage c y) y) (fullFor c x y t) t (followed (total c + 1) x y t) r e
+links-kept c (Precede x y) t r e =
+    entry-kept (isLink c x && orNone (isLinkage c y) y) (fullFor c x y t) t (preceded (total c + 1) x y t) r e
+links-kept c (Into x y) t r e =
+    entry-kept (isLink c x && orNone (isHead c y) y) (fullFor c x y t) t (preceded (total c + 1) x y t) r e
 links-kept c (Clear x) t r e = if-kept (isHead c x) t (cleared (total c + 1) x t) r e
 
 pub set-steps : (c : Counts) (k : SetCall) → KeepsRefused (onLinks (linksAfter c k))

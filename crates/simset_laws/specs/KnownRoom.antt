@@ -108,7 +108,9 @@ module _ (c : Counts) (y : ℕ) (links bounds : List ℕ) (v : Covers c 0 links 
       other true b q = clash (sym q)
       other false b q = q
 
-      go : (a : Bool) → Covers c 0 links (if a && false then (if ltb (getD bounds y 0) mostMembers then set bounds y (getD bounds y 0 + 1) else bounds) else bounds)
+      go : (a : Bool)
+          → Covers c 0 links
+          (if a && false then (if ltb (getD bounds y 0) mostMembers then set bounds y (getD bounds y 0 + 1) else bounds) else bounds)
       go true = v
       go false = v
 
@@ -142,7 +144,8 @@ unfolding knownRoom raised
 left-covers c y links bounds now got v k n = rw (k .bounds-are) (go (asksRoom c y) refl (ltb (getD bounds y 0) mostMembers) refl)
   where
     go : (a : Bool) → asksRoom c y ≡ a → (b : Bool) → ltb (getD bounds y 0) mostMembers ≡ b
-        → Covers c 0 links (if asksRoom c y then (if ltb (getD bounds y 0) mostMembers then set bounds y (getD bounds y 0 + 1) else bounds) else bounds)
+        → Covers c 0 links
+        (if asksRoom c y then (if ltb (getD bounds y 0) mostMembers then set bounds y (getD bounds y 0 + 1) else bounds) else bounds)
     go false e b f = rw e v
     go true e false f = rw (e, f) v
     go true e true f = let z : true ≡ false = sym (sym n ∙ k .is ∙ rw (e, f) refl) in clash (sym z)

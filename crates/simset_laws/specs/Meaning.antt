@@ -1,6 +1,6 @@
--- Demand 2 for the class SIMSET: for every well-formed model each set call does what the plain call does to the lists, refused by 3 or 10 on
--- their conditions alone and then with every word as it was, and tells what request 2.1 asks for; a query answers what the lists say, or 3 on its
--- condition.
+-- Demand 2 for the class SIMSET: for every well-formed model each set call does what the plain call does to the lists, refused by 3 or 10
+-- on their conditions alone and then with every word as it was, and tells what request 2.1 asks for; a query answers what the lists say,
+-- or 3 on its condition.
 use Prim.Native.Nat.{ℕ, _+_, _<_}
 use mathlib.Core.Path.{_≡_, refl, sym, ap, _∙_}
 use mathlib.Core.Bool.{Bool, true, false, _&&_}
@@ -25,8 +25,8 @@ use Rattle.model_laws.specs.Verdict.{judged-says}
 use Rattle.model_laws.specs.Called.{called, asked, turning, telling}
 use Rattle.model_laws.specs.Result.{done, need, Tells, Follows, need-done, answering-follows}
 use Rattle.simset_laws.specs.Sets.{eachSet, outSets, precedeSets, exceeds, sucSets, predSets, noLinks}
-use Rattle.simset_laws.specs.Calls.{linkedIf, enteredIf, toldIf, orNone, outStep, followStep, precedeStep, intoStep, clearStep, firstTold}
-use Rattle.simset_laws.specs.Calls.{lastTold, sucTold, predTold, emptyTold, cardinalTold, onLinks, ofLinks}
+use Rattle.simset_laws.specs.Calls.{linkedIf, enteredIf, toldIf, orNone, outStep, followStep, precedeStep, intoStep, clearStep}
+use Rattle.simset_laws.specs.Calls.{firstTold, lastTold, sucTold, predTold, emptyTold, cardinalTold, onLinks, ofLinks}
 use Rattle.simset_laws.specs.Procedures.{preceded, sucOf, predOf}
 use Rattle.simset_laws.specs.Full.{fullFor}
 use Rattle.simset_laws.specs.Plain.{kindsFine, withSets, unlessFull, setCall, linksAfter}
@@ -108,7 +108,8 @@ module _ (c : Counts) (l : Lists) (t : Tables) (z : Sized c t) (s : Spells c l t
       (λ e. rw e (refl, refl))
     where
       go : SpellsSets m (c .heads) (put x g) u → fullFor c x y (t .links) ≡ exceeds (put x g) → (f : Bool) → fullFor c x y (t .links) ≡ f
-          → Follows c t (unlessFull (exceeds (put x g)) (done (withSets l (put x g)))) (onLinks (λ v. enteredIf true (fullFor c x y v) v u) t)
+          → Follows c t (unlessFull (exceeds (put x g)) (done (withSets l (put x g))))
+          (onLinks (λ v. enteredIf true (fullFor c x y v) v u) t)
       go k is true z = rw (z, sym is ∙ z) (refl, refl)
       go k is false z =
           let n : exceeds (put x g) ≡ false = sym is ∙ z in

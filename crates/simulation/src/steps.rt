@@ -1,5 +1,5 @@
-// The sequencing calls on the tables of a judged model: refusal 3 by the operands' kinds, of wait 10 by the set's room, or the procedure. Runs
-// use these too.
+// The sequencing calls on the tables of a judged model: refusal 3 by the operands' kinds, of wait 10 by the set's room, or the procedure.
+// Runs use these too.
 use model::Counts;
 use model::Refusal;
 use model::answer::Answer;

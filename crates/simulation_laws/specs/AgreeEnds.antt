@@ -200,5 +200,6 @@ module _ (c : Counts) (M : Lists) (t : Tables) (sp : Spells c M t) (n : Notice) 
   pub wait-agrees : (y : ℕ) (M₀ : Lists) → orNone (isHead c y) y ≡ true → exceeds (precedeSets (current M₀) y (M₀ .sets)) ≡ false
       → M ≡ withSets M₀ (precedeSets (current M₀) y (M₀ .sets)) → Agrees c t (wait c y M₀) (passivated (half c) (sqsOf t))
   unfolding wait passivate
-  wait-agrees y M₀ g room q = rw (g, room) (subst (λ (k : Lists). Agrees c t (leaving k (rest (k .notices))) (passivated (half c) (sqsOf t))) q
+  wait-agrees y M₀ g room q =
+      rw (g, room) (subst (λ (k : Lists). Agrees c t (leaving k (rest (k .notices))) (passivated (half c) (sqsOf t))) q
       (passivate-agrees c M t sp n ns e))

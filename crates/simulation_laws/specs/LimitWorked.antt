@@ -3,11 +3,10 @@ use Prim.Native.Nat.{ℕ}
 use mathlib.Core.Path.{_≡_, refl}
 use mathlib.Core.List.{List, [], _∷_}
 use Rattle.model.specs.declared.Counts.{Counts}
-use Rattle.model.specs.declared.Refusal.{Refusal}
 use Rattle.model.specs.declared.Refusal.the-variants.{Operand, NoNotice, Full}
 use Rattle.model_laws.specs.Notices.{Notice}
 use Rattle.model_laws.specs.Tables.{Lists}
-use Rattle.model_laws.specs.Result.{Result, refused}
+use Rattle.model_laws.specs.Result.{refused}
 use Rattle.simset_laws.specs.LimitWorked.{links}
 use Rattle.simulation_laws.specs.Plain.{wait}
 

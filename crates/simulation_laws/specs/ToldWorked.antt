@@ -52,6 +52,6 @@ pub wait-each : waits 2 entered enteredLists (Linkage 1)
     && waits 2 started startedLists (Linkage 0)
     && waits 1 (freshTables c) (freshLists c) (Refused NoNotice) ≡ true
 unfolding freshHeads freshAxis freshTables selfLinked unlinked linkedBehind linkedBefore precedeOn preceded intoStep firstFrom headTold
-    dueFor placed noEffect timed wait seekFrom found dropOn putOn vain dueAt placeFor putByClause activated timedStep waitStep waitTold fullFor
-    sequencingCall
+    dueFor placed noEffect timed wait seekFrom found dropOn putOn vain dueAt placeFor putByClause activated timedStep waitStep waitTold
+    fullFor sequencingCall
 wait-each = refl

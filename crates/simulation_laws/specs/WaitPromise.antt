@@ -1,5 +1,5 @@
 -- What wait's code answers, from its tests and calls: refused by 3, 10 or 4 in this order, or done.
-use Prim.Native.Nat.{ℕ, _+_, _<_}
+use Prim.Native.Nat.{ℕ, _+_}
 use mathlib.Core.Path.{_≡_, refl, sym, ap, ap₂, _∙_, subst}
 use mathlib.Core.Bool.{Bool, true, false}
 use mathlib.Core.List.{List}
@@ -131,7 +131,9 @@ module _ (c : Counts) (y : ℕ) (links axis times bounds : List ℕ) (v : Covers
       (λ e. rw e (raised-covers c y links bounds v known))))
     where
       here : isLink c (c .heads + firstOf (half c) axis) ≡ true
-      here = current-link c axis j (firstOf (half c) axis) (c .heads + firstOf (half c) axis) (record { is = refl; within = omega (arith, j .first-in) }) refl
+      here =
+          current-link c axis j (firstOf (half c) axis) (c .heads + firstOf (half c) axis)
+          (record { is = refl; within = omega (arith, j .first-in) }) refl
 
 -- of the head that an operand stands for
 pub waited-as : (c : Counts) (links : List ℕ) (a : Sqs) (k axis times bounds : List ℕ) (r : Answer) (y y′ : ℕ) → y ≡ y′
