@@ -76,6 +76,6 @@ module _ (c : Counts) (bytes : List ℕ) (r i : ℕ) (n : r ≢ 0) (e : i ≡ re
     pub performed-at : o ≡ performed c (recordFrom bytes i) f t w → o ≡ performed c (recordGot (c .processes) bytes r) f t w
     performed-at eo = eo ∙ ap (λ (q : Record). performed c q f t w) record-is
 
-    pub tried-at : (bounds : List ℕ) → o ≡ tried c (recordFrom bytes i) f t w (roomKnown c (recordFrom bytes i) f (t .links) bounds)
-        → o ≡ tried c (recordGot (c .processes) bytes r) f t w (roomKnown c (recordGot (c .processes) bytes r) f (t .links) bounds)
-    tried-at bounds eo = eo ∙ ap (λ (q : Record). tried c q f t w (roomKnown c q f (t .links) bounds)) record-is
+    pub tried-at : (bounds : List ℕ) → o ≡ tried c (recordFrom bytes i) f t w (roomKnown c (recordFrom bytes i) bounds)
+        → o ≡ tried c (recordGot (c .processes) bytes r) f t w (roomKnown c (recordGot (c .processes) bytes r) bounds)
+    tried-at bounds eo = eo ∙ ap (λ (q : Record). tried c q f t w (roomKnown c q bounds)) record-is

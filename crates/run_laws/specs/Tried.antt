@@ -47,9 +47,9 @@ atHand c q f links = let x = operandWith c false links f (q .x) in orNone (isPro
 abbrev pub enters : ℕ → Bool
 enters o = eqb o 4 || eqb o 8
 
--- where the set's room is known: no count stands in a stretch
-abbrev pub roomKnown : Counts → Record → ℕ → List ℕ → List ℕ → Bool
-roomKnown c q f links bounds = knownRoom c (operandWith c false links f (q .y)) bounds
+-- where y is a head's number, or none, and the set's room is known: no count stands in a stretch
+abbrev pub roomKnown : Counts → Record → List ℕ → Bool
+roomKnown c q bounds = knownRoom c (q .y) bounds
 
 -- known is whether it is
 unfoldable pub left : Counts → Record → ℕ → List ℕ → Bool → Bool

@@ -8,6 +8,7 @@ use model::answer::Answer;
 use sheet::records::clause_at;
 use sheet::records::t_at;
 use sheet::records::x_at;
+use sheet::records::y_at;
 use simulation::steps::activate;
 use simulation::steps::cancel;
 use simulation::steps::hold_now;
@@ -82,13 +83,12 @@ pub(crate) fn wait_known_of(
 ) -> Answer
     requires { ⌜ Readable c (now sheet) i (now links) f (recordFrom (now sheet) i .y) ⌝ }
     requires { ⌜ Takeable c (now axis) (now times) ⌝ }
-    requires { ⌜ Roomy c (now links) (linkageAt c (firstOf (half c) (now axis)))
-        (operandWith c false (now links) f (recordFrom (now sheet) i .y)) ⌝ }
+    requires { ⌜ Roomy c (now links) (linkageAt c (firstOf (half c) (now axis))) (recordFrom (now sheet) i .y) ⌝ }
     ensures { λ r. ⌜ WaitMade c (waitStep c (operandWith c false (now (links .entry)) f (recordFrom (now (sheet .entry)) i .y))
         (now (links .entry)) (sqs (now (axis .entry)) (now (times .entry)))) (now (links .exit)) (now (axis .exit)) (now (times .exit))
         r ⌝ }
 {
-    let y = y_of(c, sheet, i, links, f, false);
+    let y = y_at(sheet, i);
     wait_known(c, links, axis, times, y)
 }
 

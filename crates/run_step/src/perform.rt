@@ -82,21 +82,21 @@ fn perform_at(
     }
         ≡ tried c (recordFrom (now (sheet .entry)) i) f (modelOf (now (links .entry)) (now (axis .entry)) (now (times .entry))
         (now (marks .entry))) (now (accums .entry))
-        (roomKnown c (recordFrom (now (sheet .entry)) i) f (now (links .entry)) (now (bounds .entry))) ⌝ }
+        (roomKnown c (recordFrom (now (sheet .entry)) i) (now (bounds .entry))) ⌝ }
     ensures { λ _. ⌜ (Linking c (now (links .entry)) → Covers c 0 (now (links .exit)) (now (bounds .exit))) ⌝ }
 {
     let op = operation_at(sheet, i);
     match op {
         1 => unless_refused(out_of(c, sheet, i, links, f), Effect::Stays),
         4 => {
-            if !room_of(c, sheet, i, links, f, bounds) {
+            if !room_of(c, sheet, i, bounds) {
                 return Effect::Apart;
             }
             unless_refused(into_known_of(c, sheet, i, links, f), Effect::Stays)
         }
         6 => unless_refused(hold_of(c, sheet, i, axis, times, f, time), Effect::Moves),
         8 => {
-            if !room_of(c, sheet, i, links, f, bounds) {
+            if !room_of(c, sheet, i, bounds) {
                 return Effect::Apart;
             }
             unless_refused(
@@ -144,7 +144,7 @@ pub fn perform(
     }
         ≡ tried c (recordGot (c .processes) (now (sheet .entry)) r) f
         (modelOf (now (links .entry)) (now (axis .entry)) (now (times .entry)) (now (marks .entry))) (now (accums .entry))
-        (roomKnown c (recordGot (c .processes) (now (sheet .entry)) r) f (now (links .entry)) (now (bounds .entry))) ⌝ }
+        (roomKnown c (recordGot (c .processes) (now (sheet .entry)) r) (now (bounds .entry))) ⌝ }
     ensures { λ _. ⌜ (Linking c (now (links .entry)) → Covers c 0 (now (links .exit)) (now (bounds .exit))) ⌝ }
 {
     if r == 0 {

@@ -3,6 +3,7 @@ use crate::reading::x_of;
 use crate::reading::y_of;
 use model::Counts;
 use model::answer::Answer;
+use sheet::records::y_at;
 use simset::room::known_room;
 use simset::steps::clear;
 use simset::steps::follow;
@@ -11,15 +12,15 @@ use simset::steps::into_known;
 use simset::steps::out;
 use simset::steps::precede;
 ghost use mathlib.Core.Bool.{false};
-ghost use Prim.Native.Nat.{_+_, _<_};
+ghost use Prim.Native.Nat.{_+_, _≤_};
 ghost use lib.ListN.{length};
 ghost use Rattle.model.specs.Counts.{total};
 ghost use Rattle.simset_laws.specs.Calls.{outStep, followStep, precedeStep, intoStep, clearStep};
 ghost use Rattle.simset_laws.specs.Promise.{Moved};
-ghost use Rattle.simset_laws.specs.BoundLaws.{Covers};
+ghost use Rattle.simset_laws.specs.BoundLaws.{Covers, Fits};
 ghost use Rattle.simset_laws.specs.Entering.{Entered};
 ghost use Rattle.simset_laws.specs.KnownRoom.{Known, Roomy};
-ghost use Rattle.sheet.specs.Sheet.{recordFrom};
+ghost use Rattle.sheet.specs.Sheet.{recordFrom, recordBytes};
 ghost use Rattle.run_laws.specs.OnTables.{operandWith};
 ghost use Rattle.run_laws.specs.Needs.{Readable};
 
@@ -101,35 +102,25 @@ pub(crate) fn clear_of(c: Counts, sheet: &[u8], i: usize, links: &mut [u32], f: 
     clear(c, links, x)
 }
 
-// Is room known in the set that y heads? Its bound is raised then.
-pub(crate) fn room_of(
-    c: Counts,
-    sheet: &[u8],
-    i: usize,
-    links: &[u32],
-    f: u32,
-    bounds: &mut [u32],
-) -> bool
-    requires { ⌜ Readable c (now sheet) i (now links) f (recordFrom (now sheet) i .y) ⌝ }
-    requires { ⌜ c .heads < length (now bounds) ⌝ }
-    ensures { λ r. ⌜ Known c (operandWith c false (now (links .entry)) f (recordFrom (now (sheet .entry)) i .y)) (now (bounds .entry))
-        (now (bounds .exit)) r ⌝ }
+// Is room known in the set that y heads? Its bound is raised then. Only a head's own number stands for a head, so y is taken as it is.
+pub(crate) fn room_of(c: Counts, sheet: &[u8], i: usize, bounds: &mut [u32]) -> bool
+    requires { ⌜ i + recordBytes ≤ length (now sheet) ⌝ }
+    requires { ⌜ Fits c (now bounds) ⌝ }
+    ensures { λ r. ⌜ Known c (recordFrom (now (sheet .entry)) i .y) (now (bounds .entry)) (now (bounds .exit)) r ⌝ }
 {
-    let y = y_of(c, sheet, i, links, f, false);
+    let y = y_at(sheet, i);
     known_room(c, y, bounds)
 }
 
 // Into, where room is known.
 pub(crate) fn into_known_of(c: Counts, sheet: &[u8], i: usize, links: &mut [u32], f: u32) -> Answer
     requires { ⌜ Readable c (now sheet) i (now links) f (recordFrom (now sheet) i .x) ⌝ }
-    requires { ⌜ Readable c (now sheet) i (now links) f (recordFrom (now sheet) i .y) ⌝ }
-    requires { ⌜ Roomy c (now links) (operandWith c false (now links) f (recordFrom (now sheet) i .x))
-        (operandWith c false (now links) f (recordFrom (now sheet) i .y)) ⌝ }
+    requires { ⌜ Roomy c (now links) (operandWith c false (now links) f (recordFrom (now sheet) i .x)) (recordFrom (now sheet) i .y) ⌝ }
     ensures { λ r. ⌜ Moved (total c + 1) (intoStep c (operandWith c false (now (links .entry)) f (recordFrom (now (sheet .entry)) i .x))
         (operandWith c false (now (links .entry)) f (recordFrom (now (sheet .entry)) i .y)) (now (links .entry)))
         (record { links = now (links .exit); answer = r }) ⌝ }
 {
     let x = x_of(c, sheet, i, links, f, false);
-    let y = y_of(c, sheet, i, links, f, false);
+    let y = y_at(sheet, i);
     into_known(c, links, x, y)
 }

@@ -14,7 +14,7 @@ use run_step::reading::next_of;
 use run_step::reading::place_now;
 use run_step::reading::record_of;
 use run_step::reading::time_of;
-use simset::room::BOUNDS;
+use simset::room::unknown_bounds;
 use trace::LINE_BYTES;
 ghost use mathlib.Core.Path.{_≡_};
 ghost use mathlib.Core.Bool.{true};
@@ -99,7 +99,7 @@ pub fn turn(
         ≡ turnOn c (now (sheet .entry)) i (lent (now (links .entry)) (now (axis .entry)) (now (times .entry)) (now (marks .entry))
         (now (positions .entry)) (now (accums .entry))) (now (trace .entry)) ⌝ }
 {
-    let mut bounds = [Counts::MAX_MEMBERS; BOUNDS];
+    let mut bounds = unknown_bounds(c);
     let s = stretch(
         c,
         sheet,

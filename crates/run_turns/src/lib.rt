@@ -10,7 +10,7 @@ use run_step::reading::place_now;
 use run_step::reading::record_of;
 use run_turn::stretch::stretch;
 use run_turn::turn::turn_apart;
-use simset::room::BOUNDS;
+use simset::room::unknown_bounds;
 use trace::LINE_BYTES;
 use trace::lines_in;
 use trace::past_last;
@@ -44,7 +44,7 @@ pub fn turns(
         (lent (now (links .entry)) (now (axis .entry)) (now (times .entry)) (now (marks .entry)) (now (positions .entry))
         (now (accums .entry))) (now (trace .entry)) ⌝ }
 {
-    let mut bounds = [Counts::MAX_MEMBERS; BOUNDS];
+    let mut bounds = unknown_bounds(c);
     let end = trace.len();
     let stop = past_last(end);
     let mut at = 0;

@@ -6,14 +6,14 @@ use mathlib.Core.Bool.{Bool, true, false, not}
 use mathlib.Core.List.{List}
 use native.Mathlib.Omega.{arith}
 use lib.Dec.{eqb, leb}
-use lib.ListN.{getD, set}
+use lib.ListN.{getD, set, replicate}
 use borrow.Author.Tests.{eq-eqb, ne-eqb, le-leb, lt-leb, leb-true, le-ltb, lt-ltb}
 use Rattle.ring_laws.specs.Lists.{test}
 use Rattle.ring_laws.specs.Table.{counted}
 use Rattle.model.specs.declared.Counts.{Counts}
-use Rattle.model.specs.Counts.{total, mostMembers, isHead, both}
+use Rattle.model.specs.Counts.{total, mostMembers}
 use Rattle.simset_laws.specs.Walk.{headAt, head-found}
-use Rattle.simset_laws.specs.Full.{setAt, fullAt, many, fullFor}
+use Rattle.simset_laws.specs.Full.{setAt, fullAt, many, fullFor, freeTo, unknown}
 use Rattle.simset_laws.specs.BoundLaws.{Covers, covers-one, covers-same, covers-few, covers-none}
 use Rattle.simset_laws.specs.Entering.{Tested}
 
@@ -32,9 +32,6 @@ module _ (m H y : ℕ) (t : List ℕ) where
       test (leb y H)
       (λ e. omega (arith, rw e at is, leb-true y H e))
       (λ e. omega (arith, rw e at is, head-found H t m (getD t y 0)))
-
-pub head-upto : (c : Counts) (y : ℕ) → isHead c y ≡ true → y ≤ c .heads
-head-upto c y e = leb-true y (c .heads) (both (leb 1 y) (leb y (c .heads)) e .1)
 
 module _ (c : Counts) (x h : ℕ) (links bounds : List ℕ) (v : Covers c 0 links bounds) (some : 0 < h) (in-heads : h ≤ c .heads)
     (lots : many c ≡ true) (i : ℕ) (ih : i ≡ h) where
@@ -106,3 +103,9 @@ module _ (c : Counts) (x y : ℕ) (links bounds : List ℕ) (v : Covers c 0 link
           is = rw (lots, ne-eqb k 0 (λ z. n (is ∙ z))) (t .is ∙ ap (λ (j : ℕ). fullAt (total c + 1) (c .heads) x j links) is);
           covers = subst (λ (j : ℕ). Covers c j links b) is (t .covers);
         }
+
+-- the bounds as a call begins with them, from the two numbers that are written
+pub unknown-is : (c : Counts) (n a b : ℕ) → n ≡ total c → a ≡ freeTo c (c .heads) → b ≡ freeTo c n
+    → set (set (replicate 66 mostMembers) 0 a) 65 b ≡ unknown c
+unfolding unknown
+unknown-is c n a b e f g = rw (f, g, e)

@@ -7,16 +7,19 @@ use ring::wide;
 ghost use mathlib.Core.Path.{_≡_};
 ghost use mathlib.Core.Bool.{true};
 ghost use Prim.Native.Nat.{_+_, _<_, _≤_};
-ghost use lib.ListN.{length};
 ghost use Rattle.ring_laws.specs.Table.{Sound};
-ghost use Rattle.model.specs.Counts.{total};
-ghost use Rattle.simset_laws.specs.Full.{setAt, fullAt, many, fullFor};
-ghost use Rattle.simset_laws.specs.BoundLaws.{Covers};
+ghost use Rattle.model.specs.Counts.{Allowed, total};
+ghost use Rattle.simset_laws.specs.Full.{setAt, fullAt, many, fullFor, freeTo, unknown};
+ghost use Rattle.simset_laws.specs.BoundLaws.{Fits, Covers};
 ghost use Rattle.simset_laws.specs.Entering.{Tested};
 ghost use Rattle.simset_laws.specs.KnownRoom.{Known};
 
-// Words for the bounds of all heads; place 0 is not used.
-pub const BOUNDS: usize = 65;
+// Words for the bounds of all heads, which are numbered 1 to 64, and for the two numbers below.
+pub const BOUNDS: usize = 66;
+// The places of the free heads and the free linkages: beside a linkage up to that number no set is ever full.
+const FREE_HEADS: usize = 0;
+
+pub(crate) const FREE_LINKAGES: usize = 65;
 
 // More links than a set may have members?
 fn are_many(c: Counts) -> bool
@@ -25,18 +28,40 @@ fn are_many(c: Counts) -> bool
     wide(Counts::MAX_MEMBERS) < wide(c.processes) + wide(c.plains)
 }
 
-// Is it known, with no count, that the set of head y has room for one more? Then its bound is raised. Of another y there is nothing to ask.
-pub fn known_room(c: Counts, y: u32, bounds: &mut [u32]) -> bool
-    requires { ⌜ c .heads < length (now bounds) ⌝ }
-    ensures { λ r. ⌜ Known c y (now (bounds .entry)) (now (bounds .exit)) r ⌝ }
+// Of the linkages up to n, those beside which no set is ever full: all, where there are not many links.
+fn free_to(c: Counts, n: u32) -> u32
+    ensures { λ r. ⌜ r ≡ freeTo c n ⌝ }
 {
     let crowd = are_many(c);
-    if !crowd {
+    if crowd {
+        return 0;
+    }
+    n
+}
+
+// The bounds as a call begins with them: none is known.
+pub fn unknown_bounds(c: Counts) -> [u32; BOUNDS]
+    requires { ⌜ Allowed c ⌝ }
+    ensures { λ r. ⌜ r ≡ unknown c ⌝ }
+{
+    let mut bounds = [Counts::MAX_MEMBERS; BOUNDS];
+    let n = c.total() as u32;
+    bounds[FREE_HEADS] = free_to(c, c.heads);
+    bounds[FREE_LINKAGES] = free_to(c, n);
+    bounds
+}
+
+// Is y none or a head, and known, with no count, to have room in its set for one more? Then its bound is raised. Where there are not many
+// links, this asks no more than whether y is a head or none.
+pub fn known_room(c: Counts, y: u32, bounds: &mut [u32]) -> bool
+    requires { ⌜ Fits c (now bounds) ⌝ }
+    ensures { λ r. ⌜ Known c y (now (bounds .entry)) (now (bounds .exit)) r ⌝ }
+{
+    if y <= bounds[FREE_HEADS] {
         return true;
     }
-    let head = c.is_head(y);
-    if !head {
-        return true;
+    if c.heads < y {
+        return false;
     }
     let i = wide(y);
     let bound = bounds[i];

@@ -7,7 +7,7 @@ use mathlib.Core.Bool.{true, false}
 use mathlib.Core.List.{List, _∷_}
 use native.Mathlib.Omega.{arith}
 use lib.Dec.{eqb}
-use lib.ListN.{length, getD, set, replicate, length-set, length-replicate, getD-replicate}
+use lib.ListN.{length, getD, set, length-set}
 use lib.Seq.{getD-set-same, getD-set-other}
 use borrow.Author.Tests.{eq-eqb, ne-eqb}
 use Rattle.ring_laws.specs.Lists.{decide, inside, clash}
@@ -15,11 +15,11 @@ use Rattle.ring_laws.specs.Tabulate.{bit}
 use Rattle.ring_laws.specs.Rings.{Head, Link}
 use Rattle.ring_laws.specs.Table.{unlinked}
 use Rattle.model.specs.declared.Counts.{Counts}
-use Rattle.model.specs.Counts.{Allowed, total, mostMembers, isLink}
+use Rattle.model.specs.Counts.{total, mostMembers, isLink}
 use Rattle.model_laws.specs.Tables.{setHead, membersOf, SpellsSets}
 use Rattle.simset_laws.specs.Sets.{eachSet, outSets}
 use Rattle.simset_laws.specs.Procedures.{followed, preceded, cardinalOf, cleared}
-use Rattle.simset_laws.specs.Full.{many, setAt}
+use Rattle.simset_laws.specs.Full.{many, setAt, freeTo}
 use Rattle.simset_laws.specs.SizeLaws.{Puts, puts-behind, puts-ahead, out-few, clear-few}
 use Rattle.simset_laws.specs.Laws.{set-head, sets-out, sets-followed, sets-preceded}
 use Rattle.simset_laws.specs.ClearLaw.{sets-cleared}
@@ -27,9 +27,25 @@ use Rattle.simset_laws.specs.QueryLaws.{found, cardinal-says}
 use Rattle.simset_laws.specs.FullLaws.{set-says, elsewhere, one-at-most}
 use Rattle.simset_laws.specs.Meaning.{link-of}
 
+-- words for the bounds of all heads, and two that no head has, for the free heads and the free linkages
+pub record Fits (c : Counts) (bounds : List ℕ) : Type 0 where
+  pub heads-in : c .heads < 65
+  pub places : 65 < length bounds
+  pub free-heads : getD bounds 0 0 ≡ freeTo c (c .heads)
+  pub free-linkages : getD bounds 65 0 ≡ freeTo c (total c)
+
+fits-set : (c : Counts) (bounds : List ℕ) → Fits c bounds → (h n : ℕ) → 0 < h → h ≤ c .heads → Fits c (set bounds h n)
+fits-set c bounds f h n a b =
+    record {
+      heads-in = f .heads-in;
+      places = simp length-set (f .places);
+      free-heads = getD-set-other bounds h 0 n 0 (λ z. omega arith) ∙ f .free-heads;
+      free-linkages = getD-set-other bounds h 65 n 0 (λ z. omega (arith, f .heads-in)) ∙ f .free-linkages;
+    }
+
 -- with one member more in the set of head k; 0 for none. Where there are not many links, no bound is needed
 pub record Covers (c : Counts) (k : ℕ) (links bounds : List ℕ) : Type 0 where
-  pub places : c .heads < length bounds
+  pub fits : Fits c bounds
   pub most : many c ≡ true → (h : ℕ) → 0 < h → h ≤ c .heads → getD bounds h 0 < mostMembers
       → cardinalOf (total c + 1) h links + bit (eqb h k) ≤ getD bounds h 0
 
@@ -37,28 +53,12 @@ pub record Covers (c : Counts) (k : ℕ) (links bounds : List ℕ) : Type 0 wher
 abbrev pub Linking : Counts → List ℕ → Type 0
 Linking c links = (sets : List (List ℕ)) × SpellsSets (total c + 1) (c .heads) sets links
 
--- of bounds that say nothing
-pub covers-start : (c : Counts) (links bounds : List ℕ) → c .heads < length bounds
-    → ((h : ℕ) → h < length bounds → getD bounds h 0 ≡ mostMembers) → Covers c 0 links bounds
-covers-start c links bounds l f =
-    record { places = l; most = λ e h a b q. absurd (over (f h (omega arith)) q) }
-  where
-    over : {n : ℕ} → n ≡ mostMembers → n < mostMembers → ⊥
-    over e q = omega arith
-
--- as they are when a call begins, 65 of them
-pub covers-unknown : (c : Counts) (links : List ℕ) → Allowed c → Covers c 0 links (replicate 65 mostMembers)
-covers-unknown c links a =
-    let n : length (replicate 65 mostMembers) ≡ 65 = length-replicate 65 mostMembers in
-    covers-start c links (replicate 65 mostMembers) (omega (arith, a .heads-in))
-    (λ h l. getD-replicate 65 h mostMembers 0 (omega arith))
-
 module _ (c : Counts) (k : ℕ) (links bounds : List ℕ) (v : Covers c k links bounds) where
   -- one that was not made is not counted
   pub covers-less : Covers c 0 links bounds
   covers-less =
       record {
-        places = v .places;
+        fits = v .fits;
         most = λ e h a b q. rw (ne-eqb h 0 (λ z. omega arith)) (omega (arith, v .most e h a b q));
       }
 
@@ -69,14 +69,15 @@ module _ (c : Counts) (links bounds : List ℕ) (v : Covers c 0 links bounds) (h
   pub covers-one : (n : ℕ) → (many c ≡ true → cardinalOf (total c + 1) h links ≤ n) → Covers c h links (set bounds h (n + 1))
   covers-one n few =
       record {
-        places = simp length-set (v .places);
+        fits = fits-set c bounds (v .fits) h (n + 1) some in-heads;
         most = λ e g a b. decide g h (here e g) (there e g a b);
       }
     where
       here : many c ≡ true → (g : ℕ) → g ≡ h → getD (set bounds h (n + 1)) g 0 < mostMembers
           → cardinalOf (total c + 1) g links + bit (eqb g h) ≤ getD (set bounds h (n + 1)) g 0
       here e g is q =
-          rw (is, eq-eqb h h (sym is ∙ is), getD-set-same bounds h (n + 1) 0 (omega (arith, v .places))) (omega (arith, few e))
+          rw (is, eq-eqb h h (sym is ∙ is), getD-set-same bounds h (n + 1) 0 (omega (arith, v .fits .places, v .fits .heads-in)))
+          (omega (arith, few e))
 
       there : many c ≡ true → (g : ℕ) → 0 < g → g ≤ c .heads → g ≢ h → getD (set bounds h (n + 1)) g 0 < mostMembers
           → cardinalOf (total c + 1) g links + bit (eqb g h) ≤ getD (set bounds h (n + 1)) g 0
@@ -89,7 +90,7 @@ module _ (c : Counts) (links bounds : List ℕ) (v : Covers c 0 links bounds) (h
   pub covers-same : mostMembers ≤ getD bounds h 0 → Covers c h links bounds
   covers-same l =
       record {
-        places = v .places;
+        fits = v .fits;
         most = λ e g a b q.
             decide g h
             (λ is. absurd (over (ap (λ (j : ℕ). getD bounds j 0) is) q))
@@ -105,7 +106,7 @@ covers-none c h links bounds e v = rw e v
 
 -- where there are not many links, the bounds say nothing at all
 pub covers-few : (c : Counts) (h k : ℕ) (links u bounds : List ℕ) → many c ≡ false → Covers c h links bounds → Covers c k u bounds
-covers-few c h k links u bounds e v = record { places = v .places; most = λ q. clash (sym e ∙ q) }
+covers-few c h k links u bounds e v = record { fits = v .fits; most = λ q. clash (sym e ∙ q) }
 
 -- ---- after a call
 
@@ -124,7 +125,7 @@ module _ (c : Counts) (sets : List (List ℕ)) (links bounds : List ℕ) (s : Sp
       → ((g : ℕ) → length (membersOf k g) ≤ length (membersOf sets g)) → Covers c 0 links bounds → Covers c 0 u bounds
   smaller k u w few v =
       record {
-        places = v .places;
+        fits = v .fits;
         most = λ e g a l q.
             omega (
               arith,
@@ -147,7 +148,7 @@ module _ (c : Counts) (sets : List (List ℕ)) (links bounds : List ℕ) (s : Sp
       → SpellsSets m (c .heads) (eachSet f 1 (outSets x sets)) u → Covers c (setAt m (c .heads) y links) links bounds → Covers c 0 u bounds
   covers-put x y lx ly f p u w v =
       record {
-        places = v .places;
+        fits = v .fits;
         most = λ e g a l q.
             let head : Head m (setHead (c .heads)) g = set-head m (c .heads) g a l b in
             let old = v .most e g a l q in

@@ -1,12 +1,12 @@
 -- Request 2.5 on a table of links: is a set full for a link that would enter it? m is N + 1, and the heads are 1 .. H.
 use Prim.Native.Nat.{ℕ, _+_}
-use mathlib.Core.Bool.{Bool, true, false, not, _&&_}
+use mathlib.Core.Bool.{Bool, true, false, not}
 use mathlib.Core.List.{List}
 use lib.Dec.{eqb, leb, ltb}
-use lib.ListN.{getD, set}
+use lib.ListN.{getD, set, replicate}
 use Rattle.ring_laws.specs.Lists.{if_then_else_}
 use Rattle.model.specs.declared.Counts.{Counts}
-use Rattle.model.specs.Counts.{total, mostMembers, isHead}
+use Rattle.model.specs.Counts.{total, mostMembers}
 use Rattle.simset_laws.specs.Procedures.{cardinalOf}
 use Rattle.simset_laws.specs.Walk.{headAt}
 
@@ -31,15 +31,22 @@ fullFor c x y t =
 
 -- ---- with bounds of the sets' sizes beside the table, one for each head
 
--- y heads a set whose room has to be known
-abbrev pub asksRoom : Counts → ℕ → Bool
-asksRoom c y = many c && isHead c y
+-- of the linkages up to n, those beside which no set is ever full: all, where there are not many links
+abbrev pub freeTo : Counts → ℕ → ℕ
+freeTo c n = if many c then 0 else n
 
--- the set of head y is known to have room for one more, with no count
+-- y is none or a head, and its set is known to have room for one more, with no count
 unfoldable pub knownRoom : Counts → ℕ → List ℕ → Bool
-knownRoom c y bounds = if asksRoom c y then ltb (getD bounds y 0) mostMembers else true
+knownRoom c y bounds =
+    if leb y (freeTo c (c .heads)) then true else (if leb y (c .heads) then ltb (getD bounds y 0) mostMembers else false)
 
 -- its bound with one more
+abbrev pub oneMore : ℕ → List ℕ → List ℕ
+oneMore y bounds = if ltb (getD bounds y 0) mostMembers then set bounds y (getD bounds y 0 + 1) else bounds
+
 unfoldable pub raised : Counts → ℕ → List ℕ → List ℕ
-raised c y bounds =
-    if asksRoom c y then (if ltb (getD bounds y 0) mostMembers then set bounds y (getD bounds y 0 + 1) else bounds) else bounds
+raised c y bounds = if leb y (freeTo c (c .heads)) then bounds else (if leb y (c .heads) then oneMore y bounds else bounds)
+
+-- as they are when a call begins: none is known. Places 0 and 65, which no head has, tell the free heads and the free linkages
+unfoldable pub unknown : Counts → List ℕ
+unknown c = set (set (replicate 66 mostMembers) 0 (freeTo c (c .heads))) 65 (freeTo c (total c))

@@ -1,5 +1,5 @@
 -- What the calls' code promises and asks: refused, or moved with the table still sound; operands that passed lie in the table.
-use Prim.Native.Nat.{ℕ, zero, suc, _+_, _<_}
+use Prim.Native.Nat.{ℕ, zero, suc, _+_, _<_, _≤_}
 use mathlib.Core.Path.{_≡_, refl, sym, ap, _∙_}
 use mathlib.Core.Bool.{Bool, true, false, not, _&&_, _||_}
 use mathlib.Core.List.{List}
@@ -49,6 +49,9 @@ none-or false y n f e = let z : y ≡ 0 = eqb-true y 0 (or-either (eqb y 0) fals
 pub head-or : (h y : ℕ) → leb y h ≡ orNone (leb 1 y && leb y h) y
 head-or h zero = le-leb 0 h (omega arith)
 head-or h (suc y) = rw (ne-eqb (suc y) 0 (λ e. omega arith), le-leb 1 (suc y) (omega arith))
+
+pub party-fine : (n y : ℕ) → y ≤ n → orNone (leb 1 y && leb y n) y ≡ true
+party-fine n y l = sym (head-or n y) ∙ le-leb y n l
 
 -- ---- refused or done; the tests come in turn
 

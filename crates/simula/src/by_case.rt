@@ -5,7 +5,7 @@ use model::answer::Answer;
 use model::call::Query;
 use model::call::SequencingCall;
 use model::call::SetCall;
-use simset::room::BOUNDS;
+use simset::room::unknown_bounds;
 use simula_queries::on_axis;
 use simula_queries::on_links;
 ghost use mathlib.Core.Path.{_≡_};
@@ -25,7 +25,7 @@ pub(crate) fn set_step(c: Counts, links: &mut [u32], call: SetCall) -> Answer
     requires { ⌜ Allowed c ⌝ }
     ensures { λ r. ⌜ Moved (total c + 1) (linksAfter c call (now (links .entry))) (record { links = now (links .exit); answer = r }) ⌝ }
 {
-    let mut bounds = [Counts::MAX_MEMBERS; BOUNDS];
+    let mut bounds = unknown_bounds(c);
     match call {
         SetCall::Out(x) => simset::steps::out(c, links, x),
         SetCall::Follow(x, y) => simset::steps::follow(c, links, x, y, &mut bounds),
@@ -41,7 +41,7 @@ fn wait(c: Counts, links: &mut [u32], axis: &mut [u32], times: &mut [u64], y: u3
     ensures { λ r. ⌜ WaitMade c (waitStep c y (now (links .entry)) (sqs (now (axis .entry)) (now (times .entry)))) (now (links .exit))
         (now (axis .exit)) (now (times .exit)) r ⌝ }
 {
-    let mut bounds = [Counts::MAX_MEMBERS; BOUNDS];
+    let mut bounds = unknown_bounds(c);
     simulation::steps::wait(c, links, axis, times, y, &mut bounds)
 }
 

@@ -166,7 +166,7 @@ pub fn current_link(c: Counts, f: u32) -> u32
     c.heads + f
 }
 
-// Wait, where the set has room for current.
+// Wait, where y is a head whose set has room for current, or none.
 pub fn wait_known(
     c: Counts,
     links: &mut [u32],
@@ -180,10 +180,6 @@ pub fn wait_known(
     ensures { λ r. ⌜ WaitMade c (waitStep c y (now (links .entry)) (sqs (now (axis .entry)) (now (times .entry)))) (now (links .exit))
         (now (axis .exit)) (now (times .exit)) r ⌝ }
 {
-    let ok = head_or_none(c, y);
-    if !ok {
-        return Answer::Refused(Refusal::Operand);
-    }
     let m = wide(c.processes) + 2;
     if lone(axis, m) {
         return Answer::Refused(Refusal::NoNotice);

@@ -16,8 +16,8 @@ use Rattle.model_laws.specs.Now.{AxisSound, half, firstOf}
 use Rattle.simset_laws.specs.Calls.{orNone}
 use Rattle.simset_laws.specs.Procedures.{preceded}
 use Rattle.simset_laws.specs.Full.{setAt, fullFor, knownRoom, raised}
-use Rattle.simset_laws.specs.KnownRoom.{has-room, room-raised, raised-covers}
-use Rattle.simset_laws.specs.Promise.{none-or, head-in}
+use Rattle.simset_laws.specs.KnownRoom.{Roomy, has-room, room-raised, raised-covers}
+use Rattle.simset_laws.specs.Promise.{none-or, head-in, party-fine}
 use Rattle.simset_laws.specs.BoundLaws.{Covers, Linking, covers-less, covers-preceded}
 use Rattle.simset_laws.specs.Entering.{Tested}
 use Rattle.simulation_laws.specs.Procedures.{Sqs, made, lone, dropOn}
@@ -116,20 +116,23 @@ module _ (c : Counts) (y : ℕ) (links axis times bounds : List ℕ) (sound : So
 -- where the set's room is known, refused or done
 module _ (c : Counts) (y : ℕ) (links axis times bounds : List ℕ) (v : Covers c 0 links bounds) (known : knownRoom c y bounds ≡ true)
     (j : Judged c axis) where
-  pub wait-covers : (now : List ℕ) → now ≡ raised c y bounds → (k a t : List ℕ) (r : Answer)
-      → WaitMade c (waitStep c y links (sqs axis times)) k a t r → Linking c links → Covers c 0 k now
+  -- z is the operand that stands for y
+  pub wait-covers : (now : List ℕ) → now ≡ raised c y bounds → (z : ℕ) → y ≡ z → (k a t : List ℕ) (r : Answer)
+      → WaitMade c (waitStep c z links (sqs axis times)) k a t r → Linking c links → Covers c 0 k now
   unfolding waitStep
-  wait-covers now is k a t r m w =
+  wait-covers now is z same k a t r m w =
       rw is
-      (subst (λ (l : List ℕ). Covers c 0 l (raised c y bounds)) (sym (ap (λ (o : Waited). o .links) (m .is)))
-      (test (orNone (isHead c y) y)
-      (λ e. rw (e, has-room c y links bounds v known (linkageAt c (firstOf (half c) axis)) e)
+      (subst (λ (l : List ℕ). Covers c 0 l (raised c y bounds))
+      (sym (ap (λ (o : Waited). o .links) (m .is ∙ ap (λ (j : ℕ). waitStep c j links (sqs axis times)) (sym same))))
+      (rw (party-fine (c .heads) y (room .head), room .room)
       (test (lone (half c) (sqs axis times))
       (λ l. rw l (raised-covers c y links bounds v known))
       (λ l. rw l (covers-preceded c (c .heads + firstOf (half c) axis) y links (raised c y bounds) here
-      (none-or (isHead c y) y (total c) (head-in c y) e) (room-raised c y links bounds v known e) _ refl w))))
-      (λ e. rw e (raised-covers c y links bounds v known))))
+      (omega (arith, room .head)) (room-raised c y links bounds v known) _ refl w)))))
     where
+      room : Roomy c links (linkageAt c (firstOf (half c) axis)) y
+      room = has-room c y links bounds v known (linkageAt c (firstOf (half c) axis))
+
       here : isLink c (c .heads + firstOf (half c) axis) ≡ true
       here =
           current-link c axis j (firstOf (half c) axis) (c .heads + firstOf (half c) axis)

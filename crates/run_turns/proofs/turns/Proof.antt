@@ -1,9 +1,9 @@
 use Prim.Native.Nat.{_-_, _/_}
 use mathlib.Core.Path.{_≡_, refl, sym, ap, _∙_}
 use mathlib.Core.Bool.{_||_}
-use lib.ListN.{length, length-replicate}
-use Rattle.model.specs.Counts.{mostMembers}
-use Rattle.simset_laws.specs.BoundLaws.{Covers, covers-unknown}
+use lib.ListN.{length}
+use Rattle.simset_laws.specs.BoundLaws.{Covers}
+use Rattle.simset_laws.specs.UnknownBounds.{covers-unknown, unknown-length}
 use Rattle.machine.specs.Run.{lineSize}
 use Rattle.run_laws.specs.declared.Pause.{Pause}
 use Rattle.run_laws.specs.Run.{lent, turnsOn}
@@ -21,7 +21,7 @@ use Rattle.run_turns.proofs.turns.Tie as tie
 
 abbrev Inv-loop : tie.InvT-loop
 Inv-loop c sheet links₀ axis₀ times₀ marks₀ positions₀ accums₀ trace₀ bounds₀ end stop at₀ links axis times marks positions accums trace bounds at =
-    (Counting c sheet end stop at (turnsOn c sheet 0 (length trace₀ / lineSize) (lent links₀ axis₀ times₀ marks₀ positions₀ accums₀) trace₀) (lent links₀ axis₀ times₀ marks₀ positions₀ accums₀) trace₀ (lent links axis times marks positions accums) trace) × Covers c 0 links bounds × (length bounds ≡ 65)
+    (Counting c sheet end stop at (turnsOn c sheet 0 (length trace₀ / lineSize) (lent links₀ axis₀ times₀ marks₀ positions₀ accums₀) trace₀) (lent links₀ axis₀ times₀ marks₀ positions₀ accums₀) trace₀ (lent links axis times marks positions accums) trace) × Covers c 0 links bounds × (length bounds ≡ 66)
 
 abbrev μ-loop : tie.MeasureT-loop
 μ-loop c sheet links₀ axis₀ times₀ marks₀ positions₀ accums₀ trace₀ bounds₀ end stop at₀ links axis times marks positions accums trace bounds at =
@@ -30,6 +30,9 @@ abbrev μ-loop : tie.MeasureT-loop
 -- The places that the answers look back to: `search` finds each by its type.
 abbrev start : tie.Start Inv-loop μ-loop → tie.Start Inv-loop μ-loop
 start x = x
+
+abbrev after-unknown-bounds : tie.After-unknown-bounds Inv-loop μ-loop → tie.After-unknown-bounds Inv-loop μ-loop
+after-unknown-bounds x = x
 
 abbrev at-loop : tie.At-loop Inv-loop μ-loop → tie.At-loop Inv-loop μ-loop
 at-loop x = x
@@ -64,11 +67,14 @@ in-loop-from-enum-told2 x = x .before .before .before .before .before .before .b
 abbrev stretch-from-enum-told2 : tie.After-enum-told2 Inv-loop μ-loop → tie.After-stretch Inv-loop μ-loop
 stretch-from-enum-told2 x = x .before .before .before .before .before .before .before .before .before .before .before .before .before .before
 
+unknown-bounds-requires : tie.Need-unknown-bounds-requires Inv-loop μ-loop
+unknown-bounds-requires c κs = allowed _ _ _ (start (search) .pre .0)
+
 past-last-requires : tie.Need-past-last-requires Inv-loop μ-loop
 past-last-requires c κs = search needs
 
 loop-holds : tie.Need-loop-holds Inv-loop μ-loop
-loop-holds c = (counting-start _ _ _ _ _ _ _ _ (start (search) .pre .0) (start (search) .pre .1) (omega arith) (omega arith) (omega arith) (c .past-last .ensures), covers-unknown (start (search) .args .c) _ (allowed _ _ _ (start (search) .pre .0)), length-replicate 65 mostMembers)
+loop-holds c = (counting-start _ _ _ _ _ _ _ _ (start (search) .pre .0) (start (search) .pre .1) (omega arith) (omega arith) (omega arith) (c .past-last .ensures), covers-unknown (start (search) .args .c) _ _ (after-unknown-bounds (search) .unknown-bounds .ensures) (allowed _ _ _ (start (search) .pre .0)), unknown-length (start (search) .args .c) _ (after-unknown-bounds (search) .unknown-bounds .ensures))
 
 slice-aggregate-stretch : tie.Need-slice-aggregate-stretch Inv-loop μ-loop
 slice-aggregate-stretch c = search needs
@@ -265,6 +271,7 @@ turns-spec =
     (tie.spec
     Inv-loop
     μ-loop
+    unknown-bounds-requires
     past-last-requires
     loop-holds
     slice-aggregate-stretch

@@ -1,5 +1,8 @@
+use mathlib.Core.Path.{_∙_}
 use Rattle.simulation_laws.specs.WaitPromise.{made-as}
+use Rattle.run_laws.specs.Reads.{operand-low}
 use borrow.Author.Needs.{needs}
+use native.Mathlib.Omega.{arith}
 use Rattle.run_step.proofs.arms.wait_known_of.Statement.{statement}
 use Rattle.run_step.proofs.arms.wait_known_of.Tie as tie
 
@@ -7,17 +10,17 @@ use Rattle.run_step.proofs.arms.wait_known_of.Tie as tie
 abbrev start : tie.Start → tie.Start
 start x = x
 
-abbrev after-y-of : tie.After-y-of → tie.After-y-of
-after-y-of x = x
+abbrev after-y-at : tie.After-y-at → tie.After-y-at
+after-y-at x = x
 
 abbrev after-wait-known : tie.After-wait-known → tie.After-wait-known
 after-wait-known x = x
 
-y-of-requires : tie.Need-y-of-requires
-y-of-requires c κs = start (search) .pre .0
+y-at-requires : tie.Need-y-at-requires
+y-at-requires c κs = start (search) .pre .0 .inside
 
 wait-known-requires : tie.Need-wait-known-requires
-wait-known-requires c κs = (start (search) .pre .1 .0, (start (search) .pre .0 .resolvable .sound, rw (after-y-of (search) .y-of .ensures) (start (search) .pre .1 .1)))
+wait-known-requires c κs = (start (search) .pre .1 .0, (start (search) .pre .0 .resolvable .sound, rw (after-y-at (search) .y-at .ensures) (start (search) .pre .1 .1)))
 
 same-length : tie.Need-same-length
 same-length c = search needs
@@ -29,7 +32,7 @@ same-length-3 : tie.Need-same-length-3
 same-length-3 c = search needs
 
 returns : tie.Need-returns
-returns c = made-as (start (search) .args .c) _ _ _ _ _ _ _ _ (after-y-of (search) .y-of .ensures) (after-wait-known (search) .wait-known .ensures)
+returns c = made-as (start (search) .args .c) _ _ _ _ _ _ _ _ (after-y-at (search) .y-at .ensures ∙ operand-low (start (search) .args .c) _ _ _ (start (search) .pre .0 .resolvable) _ (omega (arith, start (search) .pre .1 .1 .head))) (after-wait-known (search) .wait-known .ensures)
 
 pub wait-known-of-spec : {M : Type 1} → statement M
-wait-known-of-spec = tie.close (tie.spec y-of-requires wait-known-requires same-length same-length-2 same-length-3 returns)
+wait-known-of-spec = tie.close (tie.spec y-at-requires wait-known-requires same-length same-length-2 same-length-3 returns)

@@ -1,8 +1,9 @@
 use borrow.Author.Tests.{not-true}
 use Rattle.simset_laws.specs.Promise.{failed, passed}
 use Rattle.simset_laws.specs.Entering.{covers-out-step}
-use Rattle.simset_laws.specs.KnownRoom.{has-room, into-covers, left-covers}
+use Rattle.simset_laws.specs.KnownRoom.{known-head, has-room, into-covers, left-covers}
 use Rattle.simulation_laws.specs.WaitPromise.{wait-covers}
+use Rattle.run_laws.specs.Reads.{operand-low}
 use Rattle.run_laws.specs.Arms.{arm-1, arm-4, arm-6, arm-8, arm-12, arm-13}
 use Rattle.run_laws.specs.Tried.{here, here-known, left-unknown, left-10, left-other, tried-not, tried-made}
 use Rattle.run_laws.specs.Performing.{judged, takeable, noticed, place-some, x-readable, y-readable, numbered, in-sixty-four}
@@ -126,7 +127,7 @@ unless-refused-requires : tie.Need-unless-refused-requires
 unless-refused-requires c κs = search needs
 
 room-of-requires : tie.Need-room-of-requires
-room-of-requires c κs = (y-readable _ _ _ _ _ (start (search) .pre .0 .callable) _ (after-operation-at (search) .operation-at .ensures) (λ z. omega (arith, at-match-keys2 (search) .match .keys2)), start (search) .pre .1 .places)
+room-of-requires c κs = (start (search) .pre .0 .callable .inside, start (search) .pre .1 .fits)
 
 same-length : tie.Need-same-length
 same-length c = search needs
@@ -138,7 +139,7 @@ returns : tie.Need-returns
 returns c = (tried-not _ _ _ _ _ _ (left-unknown _ (recordFrom (start (search) .args .sheet .now) (start (search) .args .i)) _ _ _ 4 refl refl (sym (after-operation-at (search) .operation-at .ensures) ∙ at-match-keys2 (search) .match .keys2) (failed _ _ (after-room-of (search) .room-of .ensures .is) (then-room (search) .if1 .taken))), λ w. left-covers (start (search) .args .c) _ _ _ _ _ (start (search) .pre .1) (after-room-of (search) .room-of .ensures) (not-true _ (then-room (search) .if1 .taken)))
 
 into-known-of-requires : tie.Need-into-known-of-requires
-into-known-of-requires c κs = (x-readable _ _ _ _ _ (start (search) .pre .0 .callable) _ (after-operation-at (search) .operation-at .ensures) (λ z. omega (arith, at-match-keys2 (search) .match .keys2)), (y-readable _ _ _ _ _ (start (search) .pre .0 .callable) _ (after-operation-at (search) .operation-at .ensures) (λ z. omega (arith, at-match-keys2 (search) .match .keys2)), has-room (start (search) .args .c) _ _ _ (start (search) .pre .1) (passed _ _ (after-room-of (search) .room-of .ensures .is) (else-room (search) .if1 .left)) _))
+into-known-of-requires c κs = (x-readable _ _ _ _ _ (start (search) .pre .0 .callable) _ (after-operation-at (search) .operation-at .ensures) (λ z. omega (arith, at-match-keys2 (search) .match .keys2)), has-room (start (search) .args .c) _ _ _ (start (search) .pre .1) (passed _ _ (after-room-of (search) .room-of .ensures .is) (else-room (search) .if1 .left)) _)
 
 unless-refused-requires-2 : tie.Need-unless-refused-requires-2
 unless-refused-requires-2 c κs = search needs
@@ -150,7 +151,7 @@ unless-refused-requires-3 : tie.Need-unless-refused-requires-3
 unless-refused-requires-3 c κs = search needs
 
 room-of-requires-2 : tie.Need-room-of-requires-2
-room-of-requires-2 c κs = (y-readable _ _ _ _ _ (start (search) .pre .0 .callable) _ (after-operation-at (search) .operation-at .ensures) (λ z. omega (arith, at-match-keys4 (search) .match .keys4)), start (search) .pre .1 .places)
+room-of-requires-2 c κs = (start (search) .pre .0 .callable .inside, start (search) .pre .1 .fits)
 
 same-length-3 : tie.Need-same-length-3
 same-length-3 c = search needs
@@ -222,7 +223,7 @@ same-length-13 : tie.Need-same-length-13
 same-length-13 c = search needs
 
 returns-6 : tie.Need-returns-6
-returns-6 c = (tried-made _ _ _ _ _ _ (here-known _ (recordFrom (start (search) .args .sheet .now) (start (search) .args .i)) _ _ _ 4 refl refl (sym (after-operation-at (search) .operation-at .ensures) ∙ at-match-keys2 (search) .match .keys2) (passed _ _ (after-room-of (search) .room-of .ensures .is) (else-room (search) .if1 .left))) _ (arm-4 (start (search) .args .c) (recordFrom (start (search) .args .sheet .now) (start (search) .args .i)) (start (search) .args .f) (start (search) .args .links .now) (start (search) .args .axis .now) (start (search) .args .times .now) (start (search) .args .marks .now) (start (search) .args .accums .now) _ _ _ (after-unless-refused2 (search) .unless-refused2 .ensures) (sym (after-operation-at (search) .operation-at .ensures) ∙ at-match-keys2 (search) .match .keys2) (after-into-known-of (search) .into-known-of .ensures)), into-covers (start (search) .args .c) _ _ _ (start (search) .pre .1) (passed _ _ (after-room-of (search) .room-of .ensures .is) (else-room (search) .if1 .left)) _ (after-room-of (search) .room-of .ensures .bounds-are) _ _ (after-into-known-of (search) .into-known-of .ensures))
+returns-6 c = (tried-made _ _ _ _ _ _ (here-known _ (recordFrom (start (search) .args .sheet .now) (start (search) .args .i)) _ _ _ 4 refl refl (sym (after-operation-at (search) .operation-at .ensures) ∙ at-match-keys2 (search) .match .keys2) (passed _ _ (after-room-of (search) .room-of .ensures .is) (else-room (search) .if1 .left))) _ (arm-4 (start (search) .args .c) (recordFrom (start (search) .args .sheet .now) (start (search) .args .i)) (start (search) .args .f) (start (search) .args .links .now) (start (search) .args .axis .now) (start (search) .args .times .now) (start (search) .args .marks .now) (start (search) .args .accums .now) _ _ _ (after-unless-refused2 (search) .unless-refused2 .ensures) (sym (after-operation-at (search) .operation-at .ensures) ∙ at-match-keys2 (search) .match .keys2) (after-into-known-of (search) .into-known-of .ensures)), into-covers (start (search) .args .c) _ _ _ (start (search) .pre .1) (passed _ _ (after-room-of (search) .room-of .ensures .is) (else-room (search) .if1 .left)) _ (after-room-of (search) .room-of .ensures .bounds-are) _ _ (operand-low (start (search) .args .c) _ _ _ ((y-readable _ _ _ _ _ (start (search) .pre .0 .callable) _ (after-operation-at (search) .operation-at .ensures) (λ z. omega (arith, at-match-keys2 (search) .match .keys2))) .resolvable) _ (omega (arith, known-head (start (search) .args .c) _ _ _ (start (search) .pre .1) (passed _ _ (after-room-of (search) .room-of .ensures .is) (else-room (search) .if1 .left))))) _ (after-into-known-of (search) .into-known-of .ensures))
 
 same-length-14 : tie.Need-same-length-14
 same-length-14 c = search needs
@@ -246,19 +247,13 @@ same-length-19 : tie.Need-same-length-19
 same-length-19 c = search needs
 
 returns-8 : tie.Need-returns-8
-returns-8 c = (tried-made _ _ _ _ _ _ (here-known _ (recordFrom (start (search) .args .sheet .now) (start (search) .args .i)) _ _ _ 8 refl refl (sym (after-operation-at (search) .operation-at .ensures) ∙ at-match-keys4 (search) .match .keys4) (passed _ _ (after-room-of2 (search) .room-of2 .ensures .is) (else-room2 (search) .if2 .left))) _ (arm-8 (start (search) .args .c) (recordFrom (start (search) .args .sheet .now) (start (search) .args .i)) (start (search) .args .f) (start (search) .args .links .now) (start (search) .args .axis .now) (start (search) .args .times .now) (start (search) .args .marks .now) (start (search) .args .accums .now) _ _ _ _ (after-unless-refused4 (search) .unless-refused4 .ensures) _ (sym (after-operation-at (search) .operation-at .ensures) ∙ at-match-keys4 (search) .match .keys4) (after-wait-known-of (search) .wait-known-of .ensures)), wait-covers (start (search) .args .c) _ _ _ _ _ (start (search) .pre .1) (passed _ _ (after-room-of2 (search) .room-of2 .ensures .is) (else-room2 (search) .if2 .left)) (judged _ _ _ _ _ (start (search) .pre .0 .callable)) _ (after-room-of2 (search) .room-of2 .ensures .bounds-are) _ _ _ _ (after-wait-known-of (search) .wait-known-of .ensures))
+returns-8 c = (tried-made _ _ _ _ _ _ (here-known _ (recordFrom (start (search) .args .sheet .now) (start (search) .args .i)) _ _ _ 8 refl refl (sym (after-operation-at (search) .operation-at .ensures) ∙ at-match-keys4 (search) .match .keys4) (passed _ _ (after-room-of2 (search) .room-of2 .ensures .is) (else-room2 (search) .if2 .left))) _ (arm-8 (start (search) .args .c) (recordFrom (start (search) .args .sheet .now) (start (search) .args .i)) (start (search) .args .f) (start (search) .args .links .now) (start (search) .args .axis .now) (start (search) .args .times .now) (start (search) .args .marks .now) (start (search) .args .accums .now) _ _ _ _ (after-unless-refused4 (search) .unless-refused4 .ensures) _ (sym (after-operation-at (search) .operation-at .ensures) ∙ at-match-keys4 (search) .match .keys4) (after-wait-known-of (search) .wait-known-of .ensures)), wait-covers (start (search) .args .c) _ _ _ _ _ (start (search) .pre .1) (passed _ _ (after-room-of2 (search) .room-of2 .ensures .is) (else-room2 (search) .if2 .left)) (judged _ _ _ _ _ (start (search) .pre .0 .callable)) _ (after-room-of2 (search) .room-of2 .ensures .bounds-are) _ (operand-low (start (search) .args .c) _ _ _ ((y-readable _ _ _ _ _ (start (search) .pre .0 .callable) _ (after-operation-at (search) .operation-at .ensures) (λ z. omega (arith, at-match-keys4 (search) .match .keys4))) .resolvable) _ (omega (arith, known-head (start (search) .args .c) _ _ _ (start (search) .pre .1) (passed _ _ (after-room-of2 (search) .room-of2 .ensures .is) (else-room2 (search) .if2 .left))))) _ _ _ _ (after-wait-known-of (search) .wait-known-of .ensures))
 
 returns-9 : tie.Need-returns-9
 returns-9 c = (tried-not _ _ _ _ _ _ (left-10 _ (recordFrom (start (search) .args .sheet .now) (start (search) .args .i)) _ _ _ (sym (after-operation-at (search) .operation-at .ensures) ∙ at-match-keys5 (search) .match .keys5) (λ z. else1 (search) .if3 .left (after-clause-at (search) .clause-at .ensures ∙ z)) (λ z. else2 (search) .if4 .left (after-clause-at (search) .clause-at .ensures ∙ z))), λ w. start (search) .pre .1)
 
-same-length-20 : tie.Need-same-length-20
-same-length-20 c = search needs
-
 returns-10 : tie.Need-returns-10
 returns-10 c = (tried-made _ _ _ _ _ _ (here _ (recordFrom (start (search) .args .sheet .now) (start (search) .args .i)) _ _ _ 12 refl refl refl (sym (after-operation-at (search) .operation-at .ensures) ∙ at-match-keys6 (search) .match .keys6)) _ (arm-12 (start (search) .args .c) (recordFrom (start (search) .args .sheet .now) (start (search) .args .i)) (start (search) .args .f) (start (search) .args .links .now) (start (search) .args .axis .now) (start (search) .args .times .now) (start (search) .args .marks .now) (start (search) .args .accums .now) (sym (after-operation-at (search) .operation-at .ensures) ∙ at-match-keys6 (search) .match .keys6) _ (after-branch (search) .branch .ensures)), λ w. start (search) .pre .1)
-
-same-length-21 : tie.Need-same-length-21
-same-length-21 c = search needs
 
 returns-11 : tie.Need-returns-11
 returns-11 c = (tried-made _ _ _ _ _ _ (here _ (recordFrom (start (search) .args .sheet .now) (start (search) .args .i)) _ _ _ 13 refl refl refl (sym (after-operation-at (search) .operation-at .ensures) ∙ at-match-keys7 (search) .match .keys7)) _ (arm-13 (start (search) .args .c) (recordFrom (start (search) .args .sheet .now) (start (search) .args .i)) (start (search) .args .f) (start (search) .args .links .now) (start (search) .args .axis .now) (start (search) .args .times .now) (start (search) .args .marks .now) (start (search) .args .accums .now) _ _ (sym (after-operation-at (search) .operation-at .ensures) ∙ at-match-keys7 (search) .match .keys7) (in-sixty-four _ _ _ _ _ _ _ (start (search) .pre .0) _ (after-operation-at (search) .operation-at .ensures) (at-match-keys7 (search) .match .keys7)) _ (start (search) .pre .0 .time-is) _ (after-accum-of (search) .accum-of .ensures) (after-unless-refused5 (search) .unless-refused5 .ensures)), λ w. start (search) .pre .1)
@@ -275,48 +270,46 @@ perform-at-spec =
     unless-refused-requires
     room-of-requires
     same-length
-    same-length-2
     returns
     into-known-of-requires
     unless-refused-requires-2
     hold-of-requires
     unless-refused-requires-3
     room-of-requires-2
-    same-length-3
-    same-length-4
+    same-length-2
     returns-2
     wait-known-of-requires
     unless-refused-requires-4
     clause-at-requires
     delayed-of-requires
+    same-length-3
+    same-length-4
     same-length-5
-    same-length-6
-    same-length-7
     returns-3
     direct-of-requires
+    same-length-6
+    same-length-7
     same-length-8
-    same-length-9
-    same-length-10
     returns-4
     branch-requires
     accum-of-requires
     unless-refused-requires-5
-    same-length-11
+    same-length-9
     returns-5
+    same-length-10
+    same-length-11
+    returns-6
     same-length-12
     same-length-13
-    returns-6
+    returns-7
     same-length-14
     same-length-15
-    returns-7
     same-length-16
     same-length-17
-    same-length-18
-    same-length-19
     returns-8
     returns-9
-    same-length-20
+    same-length-18
     returns-10
-    same-length-21
+    same-length-19
     returns-11
     returns-12)

@@ -1,6 +1,6 @@
 use mathlib.Core.Path.{ap}
 use mathlib.Core.Bool.{_||_}
-use Rattle.simset_laws.specs.BoundLaws.{covers-unknown}
+use Rattle.simset_laws.specs.UnknownBounds.{covers-unknown}
 use Rattle.run_laws.specs.declared.Pause.{Pause}
 use Rattle.run_laws.specs.Standing.{allowed}
 use Rattle.run_laws.specs.Paused.{isFull, isDue}
@@ -14,6 +14,9 @@ use Rattle.run_turn.proofs.turn.turn.Tie as tie
 abbrev start : tie.Start → tie.Start
 start x = x
 
+abbrev after-unknown-bounds : tie.After-unknown-bounds → tie.After-unknown-bounds
+after-unknown-bounds x = x
+
 abbrev after-stretch : tie.After-stretch → tie.After-stretch
 after-stretch x = x
 
@@ -24,10 +27,13 @@ abbrev after-turn-apart : tie.After-turn-apart → tie.After-turn-apart
 after-turn-apart x = x
 
 abbrev start-from-accums : tie.After-accums → tie.Start
-start-from-accums x = x .before .before .before .before .before .before .before .before .before .before .before .before .before .before .before .before .before .before .before .before .before .before .before .before .before
+start-from-accums x = x .before .before .before .before .before .before .before .before .before .before .before .before .before .before .before .before .before .before .before .before .before .before .before .before .before .before
 
 abbrev stretch-from-accums : tie.After-accums → tie.After-stretch
 stretch-from-accums x = x .before .before .before .before .before .before .before .before .before
+
+unknown-bounds-requires : tie.Need-unknown-bounds-requires
+unknown-bounds-requires c κs = allowed _ _ _ (start (search) .pre .0)
 
 add-stretch : tie.Need-add-stretch
 add-stretch c = omega (arith, start (search) .pre .1 .0, start (search) .pre .1 .1 .1)
@@ -36,7 +42,7 @@ slice-aggregate-stretch : tie.Need-slice-aggregate-stretch
 slice-aggregate-stretch c = search needs
 
 stretch-requires : tie.Need-stretch-requires
-stretch-requires c κs = (start (search) .pre .0, (start (search) .pre .1 .0, (start (search) .pre .1 .1 .0, (omega arith, (start (search) .pre .1 .1 .1, covers-unknown (start (search) .args .c) _ (allowed _ _ _ (start (search) .pre .0)))))))
+stretch-requires c κs = (start (search) .pre .0, (start (search) .pre .1 .0, (start (search) .pre .1 .1 .0, (omega arith, (start (search) .pre .1 .1 .1, covers-unknown (start (search) .args .c) _ _ (after-unknown-bounds (search) .unknown-bounds .ensures) (allowed _ _ _ (start (search) .pre .0)))))))
 
 enum-told : tie.Need-enum-told
 enum-told c = search needs
@@ -129,6 +135,7 @@ pub turn-spec : {M : Type 1} → statement M
 turn-spec =
     tie.close
     (tie.spec
+    unknown-bounds-requires
     add-stretch
     slice-aggregate-stretch
     stretch-requires

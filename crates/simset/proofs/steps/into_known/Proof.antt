@@ -1,5 +1,6 @@
-use Rattle.simset_laws.specs.Promise.{link-in, head-in, none-or, preceded-at, entry-not, entered, passed, first-failed, second-failed, both-passed}
+use Rattle.simset_laws.specs.Promise.{link-in, preceded-at, entry-not, entered, passed, first-failed}
 use Rattle.simset_laws.specs.Calls.{intoStep}
+use Rattle.simset_laws.specs.KnownRoom.{may-enter}
 use borrow.Author.Needs.{needs}
 use native.Mathlib.Omega.{arith}
 use Rattle.simset.proofs.steps.into_known.Statement.{statement}
@@ -18,15 +19,6 @@ then1 x = x
 abbrev else1 : tie.Else1 → tie.Else1
 else1 x = x
 
-abbrev after-head-or-none : tie.After-head-or-none → tie.After-head-or-none
-after-head-or-none x = x
-
-abbrev then2 : tie.Then2 → tie.Then2
-then2 x = x
-
-abbrev else2 : tie.Else2 → tie.Else2
-else2 x = x
-
 abbrev after-total : tie.After-total → tie.After-total
 after-total x = x
 
@@ -40,13 +32,6 @@ returns : tie.Need-returns
 unfolding intoStep
 returns c = entry-not _ _ _ _ _ (start (search) .pre .0) (first-failed _ _ _ (after-is-link (search) .is-link .ensures) (then1 (search) .if1 .taken))
 
-head-or-none-requires : tie.Need-head-or-none-requires
-head-or-none-requires c κs = search needs
-
-returns-2 : tie.Need-returns-2
-unfolding intoStep
-returns-2 c = entry-not _ _ _ _ _ (start (search) .pre .0) (second-failed _ _ _ _ (after-is-link (search) .is-link .ensures) (else1 (search) .if1 .left) (after-head-or-none (search) .head-or-none .ensures) (then2 (search) .if2 .taken))
-
 total-requires : tie.Need-total-requires
 total-requires c κs = search needs
 
@@ -54,14 +39,14 @@ add-precede : tie.Need-add-precede
 add-precede c = search needs
 
 precede-requires : tie.Need-precede-requires
-precede-requires c κs = (rw (after-total (search) .total .ensures) (start (search) .pre .0), (omega (arith, after-total (search) .total .ensures, link-in (start (search) .args .c) (start (search) .args .x) (passed _ _ (after-is-link (search) .is-link .ensures) (else1 (search) .if1 .left))), omega (arith, after-total (search) .total .ensures, none-or _ (start (search) .args .y) _ (head-in (start (search) .args .c) (start (search) .args .y)) (passed _ _ (after-head-or-none (search) .head-or-none .ensures) (else2 (search) .if2 .left)))))
+precede-requires c κs = (rw (after-total (search) .total .ensures) (start (search) .pre .0), (omega (arith, after-total (search) .total .ensures, link-in (start (search) .args .c) (start (search) .args .x) (passed _ _ (after-is-link (search) .is-link .ensures) (else1 (search) .if1 .left))), omega (arith, after-total (search) .total .ensures, start (search) .pre .1 .head)))
 
 same-length : tie.Need-same-length
 same-length c = search needs
 
-returns-3 : tie.Need-returns-3
+returns-2 : tie.Need-returns-2
 unfolding intoStep
-returns-3 c = entered _ _ _ _ _ _ (both-passed _ _ _ _ (after-is-link (search) .is-link .ensures) (else1 (search) .if1 .left) (after-head-or-none (search) .head-or-none .ensures) (else2 (search) .if2 .left)) (start (search) .pre .1 (passed _ _ (after-head-or-none (search) .head-or-none .ensures) (else2 (search) .if2 .left))) (preceded-at _ _ _ _ _ _ (after-total (search) .total .ensures) (after-precede (search) .precede .ensures))
+returns-2 c = entered _ _ _ _ _ _ (may-enter (start (search) .args .c) _ _ _ (passed _ _ (after-is-link (search) .is-link .ensures) (else1 (search) .if1 .left)) (start (search) .pre .1)) (start (search) .pre .1 .room) (preceded-at _ _ _ _ _ _ (after-total (search) .total .ensures) (after-precede (search) .precede .ensures))
 
 pub into-known-spec : {M : Type 1} → statement M
 into-known-spec =
@@ -69,10 +54,8 @@ into-known-spec =
     (tie.spec
     is-link-requires
     returns
-    head-or-none-requires
-    returns-2
     total-requires
     add-precede
     precede-requires
     same-length
-    returns-3)
+    returns-2)

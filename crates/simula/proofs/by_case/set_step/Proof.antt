@@ -1,13 +1,15 @@
 use Rattle.simset_laws.specs.Promise.{moved-as}
-use Rattle.simset_laws.specs.BoundLaws.{covers-unknown}
+use Rattle.simset_laws.specs.UnknownBounds.{covers-unknown}
 use borrow.Author.Needs.{needs}
-use native.Mathlib.Omega.{arith}
 use Rattle.simula.proofs.by_case.set_step.Statement.{statement}
 use Rattle.simula.proofs.by_case.set_step.Tie as tie
 
 -- The places that the answers look back to: `search` finds each by its type.
 abbrev start : tie.Start → tie.Start
 start x = x
+
+abbrev after-unknown-bounds : tie.After-unknown-bounds → tie.After-unknown-bounds
+after-unknown-bounds x = x
 
 abbrev after-call : tie.After-call → tie.After-call
 after-call x = x
@@ -39,6 +41,9 @@ after-call5 x = x
 abbrev after-clear : tie.After-clear → tie.After-clear
 after-clear x = x
 
+unknown-bounds-requires : tie.Need-unknown-bounds-requires
+unknown-bounds-requires c κs = start (search) .pre .1
+
 enum-known-call : tie.Need-enum-known-call
 enum-known-call c = search needs
 
@@ -52,7 +57,7 @@ slice-aggregate-follow : tie.Need-slice-aggregate-follow
 slice-aggregate-follow c = search needs
 
 follow-requires : tie.Need-follow-requires
-follow-requires c κs = (start (search) .pre .0, covers-unknown (start (search) .args .c) _ (start (search) .pre .1))
+follow-requires c κs = (start (search) .pre .0, covers-unknown (start (search) .args .c) _ _ (after-unknown-bounds (search) .unknown-bounds .ensures) (start (search) .pre .1))
 
 enum-known-call-3 : tie.Need-enum-known-call-3
 enum-known-call-3 c = search needs
@@ -61,7 +66,7 @@ slice-aggregate-precede : tie.Need-slice-aggregate-precede
 slice-aggregate-precede c = search needs
 
 precede-requires : tie.Need-precede-requires
-precede-requires c κs = (start (search) .pre .0, covers-unknown (start (search) .args .c) _ (start (search) .pre .1))
+precede-requires c κs = (start (search) .pre .0, covers-unknown (start (search) .args .c) _ _ (after-unknown-bounds (search) .unknown-bounds .ensures) (start (search) .pre .1))
 
 enum-known-call-4 : tie.Need-enum-known-call-4
 enum-known-call-4 c = search needs
@@ -70,7 +75,7 @@ slice-aggregate-into : tie.Need-slice-aggregate-into
 slice-aggregate-into c = search needs
 
 into-requires : tie.Need-into-requires
-into-requires c κs = (start (search) .pre .0, covers-unknown (start (search) .args .c) _ (start (search) .pre .1))
+into-requires c κs = (start (search) .pre .0, covers-unknown (start (search) .args .c) _ _ (after-unknown-bounds (search) .unknown-bounds .ensures) (start (search) .pre .1))
 
 enum-known-call-5 : tie.Need-enum-known-call-5
 enum-known-call-5 c = search needs
@@ -112,6 +117,7 @@ pub set-step-spec : {M : Type 1} → statement M
 set-step-spec =
     tie.close
     (tie.spec
+    unknown-bounds-requires
     enum-known-call
     out-requires
     enum-known-call-2
