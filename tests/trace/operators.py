@@ -11,7 +11,7 @@ import sys
 ROOT = os.path.dirname(os.path.dirname(os.path.dirname(os.path.abspath(__file__))))
 # searched whole: the trace writer, the step's write, the loop and its turns, the run call, the C edge and the printing program
 CRATES = ['trace', 'run_turn', 'run_turns', 'run_judge', 'run', 'host', 'run_print']
-FILES = ['crates/run_step/src/lib.rt', 'crates/calls/src/turn_call.rt']
+FILES = ['crates/run_arms/src/lib.rt', 'crates/calls/src/turn_call.rt']
 # "splitting a number into bytes may keep them"
 SPLITTING = 'crates/trace/src/bytes.rt'
 # the program for tests has tables of its own to lay out, and writes no line

@@ -1,5 +1,5 @@
 // Runs of model sheets: what a run call does to its tables and trace, that this is the plain machine's, and demand 3, in specs/. The code
-// is in `run_step`, `run_turn`, `run_turns`, `run_fresh`, `run_judge`, `run_answer` and `run`.
+// is in `run_arms`, `run_step`, `run_turn`, `run_turns`, `run_fresh`, `run_judge`, `run_answer` and `run`.
 use machine::End;
 use model::Refusal;
 

@@ -1,14 +1,14 @@
 // The calls that are made apart from a stretch of turns: the rarer ones, those that have to count a set, and finish.
-use crate::arms::cancel_of;
-use crate::arms::timed_of;
-use crate::arms::wait_of;
-use crate::perform::unless_refused;
-use crate::set_arms::clear_of;
-use crate::set_arms::follow_of;
-use crate::set_arms::into_of;
-use crate::set_arms::precede_of;
 use model::Counts;
 use model::verdict::Verdict;
+use run_arms::arms::cancel_of;
+use run_arms::arms::timed_of;
+use run_arms::arms::wait_of;
+use run_arms::set_arms::clear_of;
+use run_arms::set_arms::follow_of;
+use run_arms::set_arms::into_of;
+use run_arms::set_arms::precede_of;
+use run_arms::unless_refused;
 use run_laws::Effect;
 use sheet::records::operation_at;
 use sheet::records::record_offset;

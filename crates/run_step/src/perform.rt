@@ -1,16 +1,16 @@
 // The calls that a stretch of turns makes itself, on judged tables, and what they mean for current.
-use crate::arms::accum_of;
-use crate::arms::hold_of;
-use crate::arms::wait_known_of;
-use crate::set_arms::into_known_of;
-use crate::set_arms::out_of;
-use crate::set_arms::room_of;
-use crate::soon::delayed_of;
-use crate::soon::direct_of;
 use model::Counts;
 use model::Refusal;
-use model::answer::Answer;
 use ring::wide;
+use run_arms::arms::accum_of;
+use run_arms::arms::hold_of;
+use run_arms::arms::wait_known_of;
+use run_arms::set_arms::into_known_of;
+use run_arms::set_arms::out_of;
+use run_arms::set_arms::room_of;
+use run_arms::soon::delayed_of;
+use run_arms::soon::direct_of;
+use run_arms::unless_refused;
 use run_laws::Effect;
 use sheet::records::clause_at;
 use sheet::records::operation_at;
@@ -23,23 +23,10 @@ ghost use Prim.Native.Nat.{_<_};
 ghost use Rattle.sheet.specs.Sheet.{recordOffset, recordFrom};
 ghost use Rattle.run_laws.specs.Needs.{Readable, Performable};
 ghost use Rattle.run_laws.specs.Run.{recordGot};
-ghost use Rattle.run_laws.specs.Performed.{unlessRefused, branched};
+ghost use Rattle.run_laws.specs.Performed.{branched};
 ghost use Rattle.run_laws.specs.Tried.{tried, roomKnown};
 ghost use Rattle.model_laws.specs.Tables.{modelOf};
 ghost use Rattle.simset_laws.specs.BoundLaws.{Covers, Linking};
-
-// An accepted call means e.
-pub(crate) fn unless_refused(a: Answer, e: Effect) -> Effect
-    ensures { λ r. ⌜ r ≡ unlessRefused a e ⌝ }
-{
-    match a {
-        Answer::Done => e,
-        Answer::Linkage(_) => e,
-        Answer::Number(_) => e,
-        Answer::Truth(_) => e,
-        Answer::Refused(q) => Effect::Refused(q),
-    }
-}
 
 // 12: x is a head, or refusal 3; where it is empty, the process goes to y. No operand but a head's number stands for a head.
 fn branch(c: Counts, sheet: &[u8], i: usize, links: &[u32], f: u32) -> Effect

@@ -3,18 +3,18 @@
 // notice, and the record goes to the table when another process is current and when the stretch ends. Bounds of the sets' sizes are handed
 // on, so that a set is seldom counted when a link enters it.
 use model::Counts;
+use run_arms::move_on;
+use run_arms::place;
+use run_arms::reading::next_of;
+use run_arms::reading::place_now;
+use run_arms::reading::position;
+use run_arms::reading::record_of;
+use run_arms::reading::time_of;
+use run_arms::write;
 use run_laws::Effect;
 use run_laws::Pause;
 use run_laws::Stretch;
-use run_step::move_on;
 use run_step::perform::perform;
-use run_step::place;
-use run_step::reading::next_of;
-use run_step::reading::place_now;
-use run_step::reading::position;
-use run_step::reading::record_of;
-use run_step::reading::time_of;
-use run_step::write;
 use trace::LINE_BYTES;
 use trace::past_last;
 ghost use mathlib.Core.Path.{_≡_};

@@ -2,12 +2,12 @@
 // a turn whose call no stretch makes. Bounds of the sets' sizes stand beside the tables while this goes on.
 use machine::End;
 use model::Counts;
+use run_arms::reading::is_end;
+use run_arms::reading::place_now;
+use run_arms::reading::record_of;
 use run_laws::Pause;
 use run_laws::Ran;
 use run_laws::Turn;
-use run_step::reading::is_end;
-use run_step::reading::place_now;
-use run_step::reading::record_of;
 use run_turn::stretch::stretch;
 use run_turn::turn::turn_apart;
 use simset::room::unknown_bounds;
