@@ -173,9 +173,27 @@ fn wrong_kinds() -> Vec<Told> {
     wrong.map(|record| (filled(counts, 1, FULL, vec![record]), "refused 3 at record 513 after 512")).to_vec()
 }
 
+/// The first member of an empty set is none: into by it is out alone, and wait by it takes current out and passivates, with few links and
+/// with many, a full set among them.
+fn first_of_an_empty_set() -> Vec<Told> {
+    let (few, some, many) = (Counts::new(2, 2, 4), Counts::new(2, 4, 0), Counts::new(2, 2, 513));
+    let (empty, member, free) = (CURRENT + 2, many.process(2) + 9, many.total());
+    let into = |x: u32, y: u32| record(op::INTO, x, y, 0);
+    let wait = record(op::WAIT, 0, empty, 0);
+    let out = put(few, 1..=3, op::INTO, 1).into_iter().chain(put(few, 1..=3, op::INTO, empty));
+    let by_turns = vec![into(member, empty), into(free, 1), into(free, empty), into(member, 1), into(free, 1)];
+    vec![
+        (by_main(few, out.chain([into(CURRENT, CURRENT + 1)]).collect()), "finished 7"),
+        (all_at_once(some, vec![record(op::HOLD, 0, 0, 1_000)], vec![into(CURRENT, 1), wait]), "finished 10"),
+        (filled(many, 1, FULL, by_turns), "refused 10 at record 517 after 516"),
+        (filled(many, 1, FULL, vec![wait]), "refused 4 at record 513 after 512"),
+    ]
+}
+
 /// All of them, with what they come to.
 pub fn told() -> Vec<Told> {
-    [one_by_one(), by_themselves(), within(), left_and_entered(), two_queues(), wrong_kinds()].concat()
+    let entering = [one_by_one(), by_themselves(), within(), left_and_entered(), two_queues()];
+    entering.into_iter().chain([wrong_kinds(), first_of_an_empty_set()]).flatten().collect()
 }
 
 pub fn all() -> Vec<Sheet> {
