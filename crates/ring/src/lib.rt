@@ -3,7 +3,7 @@
 ghost use mathlib.Core.Path.{_≡_};
 ghost use Prim.Native.Nat.{_*_, _+_, _<_};
 ghost use lib.ListN.{length, getD};
-ghost use Rattle.ring_laws.specs.Table.{Sound, Made, unlinked, linkedBehind, linkedBefore, selfLinked, counted};
+ghost use Rattle.ring_laws.specs.Table.{Sound, Made, unlinked, linkedBehind, linkedBefore, selfLinked, steps};
 
 // Takes x out of its ring, where pw stands before it; nothing where it stands in none.
 pub fn unlink_behind(t: &mut [u32], m: usize, x: usize, pw: u32)
@@ -85,15 +85,15 @@ pub fn wide(x: u32) -> usize
     x as usize
 }
 
-// How many members the ring of h has.
-pub fn count(t: &[u32], m: usize, h: usize) -> usize
+// How many members the ring of h has, counted no further than most.
+pub fn count(t: &[u32], m: usize, h: usize, most: usize) -> usize
     requires { ⌜ Sound m (now t) ⌝ }
     requires { ⌜ h < m ⌝ }
-    ensures { λ r. ⌜ r ≡ counted m h (now (t .entry)) ⌝ }
+    ensures { λ r. ⌜ r ≡ steps (now (t .entry)) h most (getD (now (t .entry)) h 0) ⌝ }
 {
     let mut n: usize = 0;
     let mut i = wide(t[h]);
-    while n < m {
+    while n < most {
         if i == h {
             return n;
         }

@@ -1,11 +1,12 @@
 -- The published statements on a table of 2 × m words: the successor of i stands at i, its predecessor at m + i; 0 is none.
-use Prim.Native.Nat.{ℕ, zero, suc, _+_, _*_, _<_}
-use mathlib.Core.Path.{_≡_, refl}
+use Prim.Native.Nat.{ℕ, zero, suc, _+_, _*_, _<_, _≤_}
+use mathlib.Core.Path.{_≡_, refl, ap}
 use mathlib.Core.List.{List}
+use native.Mathlib.Omega.{arith}
 use lib.Dec.{eqb}
 use lib.ListN.{length, getD, set}
 use borrow.Author.Tests.{eq-eqb, ne-eqb}
-use Rattle.ring_laws.specs.Lists.{if_then_else_}
+use Rattle.ring_laws.specs.Lists.{if_then_else_, test}
 
 -- what the code needs to be safe: two halves of m words, and every word names a place
 pub record Sound (m : ℕ) (t : List ℕ) : Type 0 where
@@ -68,3 +69,26 @@ steps-here t h (suc k) i e = rw (eq-eqb i h e)
 pub steps-on : (t : List ℕ) (h k i : ℕ) → (i ≡ h → ⊥) → steps t h (suc k) i ≡ suc (steps t h k (getD t i 0))
 unfolding steps
 steps-on t h k i n = rw (ne-eqb i h n)
+
+-- fewer than a may be: a longer walk makes no more
+pub steps-few : (t : List ℕ) (h a b i : ℕ) → a ≤ b → steps t h a i < a → steps t h b i ≡ steps t h a i
+unfolding steps
+steps-few t h zero b i le l = absurd (omega (arith, l))
+steps-few t h (suc a) zero i le l = absurd (omega (arith, le))
+steps-few t h (suc a) (suc b) i le l =
+    test (eqb i h)
+    (λ e. rw e)
+    (λ e. let k : suc (steps t h a (getD t i 0)) < suc a = rw e at l in
+    rw e (ap suc (steps-few t h a b (getD t i 0) (omega (arith, le)) (omega (arith, k)))))
+
+-- as many as may be: a longer walk makes as many at least
+pub steps-most : (t : List ℕ) (h a b i : ℕ) → a ≤ b → a ≤ steps t h a i → a ≤ steps t h b i
+unfolding steps
+steps-most t h zero b i le l = omega arith
+steps-most t h (suc a) zero i le l = absurd (omega (arith, le))
+steps-most t h (suc a) (suc b) i le l =
+    test (eqb i h)
+    (λ e. let k : suc a ≤ 0 = rw e at l in absurd (omega (arith, k)))
+    (λ e. let k : suc a ≤ suc (steps t h a (getD t i 0)) = rw e at l in
+    let z = steps-most t h a b (getD t i 0) (omega (arith, le)) (omega (arith, k)) in
+    rw e (omega (arith, z)))

@@ -7,9 +7,9 @@ use mathlib.Core.List.{List}
 use native.Mathlib.Omega.{arith}
 use lib.Dec.{eqb, leb}
 use lib.ListN.{getD, set, replicate}
-use borrow.Author.Tests.{eq-eqb, ne-eqb, le-leb, lt-leb, leb-true, le-ltb, lt-ltb}
+use borrow.Author.Tests.{eq-eqb, ne-eqb, le-leb, lt-leb, leb-true, le-ltb, lt-ltb, ltb-true}
 use Rattle.ring_laws.specs.Lists.{test}
-use Rattle.ring_laws.specs.Table.{counted}
+use Rattle.ring_laws.specs.Table.{steps, counted, steps-few, steps-most}
 use Rattle.model.specs.declared.Counts.{Counts}
 use Rattle.model.specs.Counts.{total, mostMembers}
 use Rattle.simset_laws.specs.Walk.{headAt, head-found}
@@ -56,17 +56,21 @@ module _ (c : Counts) (x h : ℕ) (links bounds : List ℕ) (v : Covers c 0 link
             (covers-one c links bounds v h some in-heads (getD bounds i 0) (λ e. few));
       }
 
-  module _ (k n : ℕ) (ek : k ≡ total c) (en : n ≡ counted (k + 1) i links) where
-    size : n ≡ counted m h links
-    size = en ∙ ap (λ (j : ℕ). counted (j + 1) i links) ek ∙ ap (λ (j : ℕ). counted m j links) ih
+  module _ (w n : ℕ) (ew : w ≡ mostMembers) (en : n ≡ steps links i w (getD links i 0)) where
+    least : n ≡ steps links h mostMembers (getD links h 0)
+    least = en ∙ ap (λ (j : ℕ). steps links i j (getD links i 0)) ew ∙ ap (λ (j : ℕ). steps links j mostMembers (getD links j 0)) ih
+
+    all : mostMembers ≤ m
+    all = omega (arith, ltb-true mostMembers (c .processes + c .plains) lots)
 
     -- the count does
     pub by-count : n < mostMembers → Tested c h links full (set bounds i (n + 1)) false
     by-count l =
+        let size = steps-few links h mostMembers m (getD links h 0) all (omega (arith, least)) in
         record {
-          is = not-full (omega (arith, size));
+          is = not-full (omega (arith, size, least));
           covers = subst (λ (j : ℕ). Covers c h links (set bounds j (n + 1))) (sym ih)
-              (covers-one c links bounds v h some in-heads n (λ e. omega (arith, size)));
+              (covers-one c links bounds v h some in-heads n (λ e. omega (arith, size, least)));
         }
 
     -- the set has 512: x may be one of them
@@ -74,9 +78,10 @@ module _ (c : Counts) (x h : ℕ) (links bounds : List ℕ) (v : Covers c 0 link
         → Tested c h links full bounds (not (eqb g h))
     unfolding fullAt
     by-head b l j g ej eg =
+        let size = steps-most links h mostMembers m (getD links h 0) all (omega (arith, least)) in
         record {
           is =
-              rw (le-ltb (counted m h links) mostMembers (omega (arith, size)))
+              rw (le-ltb (counted m h links) mostMembers size)
               (ap (λ (q : ℕ). not (eqb q h)) (eg ∙ ap (λ (q : ℕ). headAt (q + 1) (c .heads) x links) ej));
           covers = covers-same c links bounds v h some in-heads (rw ih at b);
         }

@@ -98,8 +98,9 @@ fn is_full(c: Counts, links: &[u32], x: u32, h: u32, bounds: &mut [u32]) -> bool
         bounds[i] = b + 1;
         return false;
     }
-    let n = count(links, c.total() + 1, i);
-    if n < wide(Counts::MAX_MEMBERS) {
+    let most = wide(Counts::MAX_MEMBERS);
+    let n = count(links, c.total() + 1, i, most);
+    if n < most {
         bounds[i] = n as u32 + 1;
         return false;
     }

@@ -82,7 +82,7 @@ pub fn cardinal(c: Counts, links: &[u32], x: u32) -> Answer
         return Answer::Refused(Refusal::Operand);
     }
     let n = c.total();
-    let k = count(links, n + 1, wide(x));
+    let k = count(links, n + 1, wide(x), n + 1);
     Answer::Number(k as u64)
 }
 

@@ -59,6 +59,9 @@ same-length c = search needs
 returns : tie.Need-returns
 returns c = by-bound _ _ _ _ _ (start (search) .pre .1 .1 .1) (start (search) .pre .1 .0 .1) (start (search) .pre .1 .0 .2) (start (search) .pre .1 .1 .0) _ (after-wide (search) .wide .ensures) (then1 (search) .if1 .taken)
 
+wide-requires-2 : tie.Need-wide-requires-2
+wide-requires-2 c κs = search needs
+
 total-requires : tie.Need-total-requires
 total-requires c κs = search needs
 
@@ -67,9 +70,6 @@ add-count c = search needs
 
 count-requires : tie.Need-count-requires
 count-requires c κs = (rw (after-total (search) .total .ensures) (start (search) .pre .0), omega (arith, after-total (search) .total .ensures, after-wide (search) .wide .ensures, start (search) .pre .1 .0))
-
-wide-requires-2 : tie.Need-wide-requires-2
-wide-requires-2 c κs = search needs
 
 cast-bounds : tie.Need-cast-bounds
 cast-bounds c = search needs
@@ -87,7 +87,7 @@ same-length-2 : tie.Need-same-length-2
 same-length-2 c = search needs
 
 returns-2 : tie.Need-returns-2
-returns-2 c = by-count _ _ _ _ _ (start (search) .pre .1 .1 .1) (start (search) .pre .1 .0 .1) (start (search) .pre .1 .0 .2) (start (search) .pre .1 .1 .0) _ (after-wide (search) .wide .ensures) _ _ (after-total (search) .total .ensures) (after-count (search) .count .ensures) (omega (arith, then2 (search) .if2 .taken, after-wide2 (search) .wide2 .ensures))
+returns-2 c = by-count _ _ _ _ _ (start (search) .pre .1 .1 .1) (start (search) .pre .1 .0 .1) (start (search) .pre .1 .0 .2) (start (search) .pre .1 .1 .0) _ (after-wide (search) .wide .ensures) _ _ (after-wide2 (search) .wide2 .ensures) (after-count (search) .count .ensures) (omega (arith, then2 (search) .if2 .taken, after-wide2 (search) .wide2 .ensures))
 
 total-requires-2 : tie.Need-total-requires-2
 total-requires-2 c κs = search needs
@@ -99,7 +99,7 @@ head-at-requires : tie.Need-head-at-requires
 head-at-requires c κs = (rw (after-total2 (search) .total2 .ensures) (start (search) .pre .0), omega (arith, after-total2 (search) .total2 .ensures, start (search) .pre .1 .0))
 
 returns-3 : tie.Need-returns-3
-returns-3 c = by-head _ _ _ _ _ (start (search) .pre .1 .1 .1) (start (search) .pre .1 .0 .1) (start (search) .pre .1 .0 .2) (start (search) .pre .1 .1 .0) _ (after-wide (search) .wide .ensures) _ _ (after-total (search) .total .ensures) (after-count (search) .count .ensures) (else1 (search) .if1 .left) (omega (arith, else2 (search) .if2 .left, after-wide2 (search) .wide2 .ensures)) _ _ (after-total2 (search) .total2 .ensures) (c .head-at .ensures)
+returns-3 c = by-head _ _ _ _ _ (start (search) .pre .1 .1 .1) (start (search) .pre .1 .0 .1) (start (search) .pre .1 .0 .2) (start (search) .pre .1 .1 .0) _ (after-wide (search) .wide .ensures) _ _ (after-wide2 (search) .wide2 .ensures) (after-count (search) .count .ensures) (else1 (search) .if1 .left) (omega (arith, else2 (search) .if2 .left, after-wide2 (search) .wide2 .ensures)) _ _ (after-total2 (search) .total2 .ensures) (c .head-at .ensures)
 
 pub is-full-spec : {M : Type 1} → statement M
 is-full-spec =
@@ -113,10 +113,10 @@ is-full-spec =
     slice-write-bounds
     same-length
     returns
+    wide-requires-2
     total-requires
     add-count
     count-requires
-    wide-requires-2
     cast-bounds
     add-bounds-2
     mul-bounds-2

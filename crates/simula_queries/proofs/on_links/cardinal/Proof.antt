@@ -21,6 +21,9 @@ add-count c = search needs
 wide-requires : tie.Need-wide-requires
 wide-requires c κs = search needs
 
+add-count-2 : tie.Need-add-count-2
+add-count-2 c = search needs
+
 count-requires : tie.Need-count-requires
 count-requires c κs = (rw (c .before .total .ensures) (c .before .before .before .before .before .pre), omega (arith, c .before .total .ensures, c .wide .ensures, head-in (c .before .before .before .before .before .args .c) (c .before .before .before .before .before .args .x) (passed _ _ (c .before .before .before .is-head .ensures) (c .before .before .if1 .left))))
 
@@ -37,5 +40,6 @@ cardinal-spec =
     total-requires
     add-count
     wide-requires
+    add-count-2
     count-requires
     returns-2)
