@@ -29,7 +29,7 @@ pub fn accum_alone_lent(
 }
 
 // 64 accumulators after a call on the first of them, and the call's answer.
-#[derive(Drop)]
+#[derive(Clone, Copy)]
 struct Relisted {
     list: [Accumulator; 64],
     answer: Answer,

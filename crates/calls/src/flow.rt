@@ -4,7 +4,7 @@ ghost use Rattle.calls.specs.Flow.{FlowFits};
 
 use libc::{STDIN_FILENO, STDOUT_FILENO};
 
-#[derive(Drop)]
+#[derive(Clone, Copy)]
 pub struct Flow {
     pub at: usize,
     pub end: usize,

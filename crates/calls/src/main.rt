@@ -1,4 +1,5 @@
 // A program for tests: reads requests, makes each call on the tables that a request brings, and writes a response for each.
+#![tactic(auto)]
 mod accum_calls;
 mod answer;
 mod decode;

@@ -8,7 +8,7 @@ use ring::wide;
 use words::{i64_at, u32_at};
 
 // How many of each: words, bytes, and accumulators of three words.
-#[derive(Drop)]
+#[derive(Clone, Copy)]
 pub struct Sizes {
     pub links: u32,
     pub axis: u32,
@@ -20,7 +20,7 @@ pub struct Sizes {
     pub trace: u32,
 }
 
-#[derive(Drop)]
+#[derive(Clone, Copy)]
 pub struct Head {
     pub call: u32,
     pub counts: Counts,

@@ -6,7 +6,7 @@ ghost use Rattle.model.specs.Answers.{code_of, value_of};
 use model::Refusal;
 use model::answer::Answer;
 
-#[derive(Drop)]
+#[derive(Clone, Copy)]
 pub struct Reply {
     pub code: u32,
     pub lines: u32,

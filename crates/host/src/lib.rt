@@ -1,4 +1,5 @@
 // The edge for a C host: one function, with a fresh run's tables in local arrays.
+#![tactic(auto)]
 mod start;
 
 ghost use Rattle.std.specs.Prelude.{◌≡◌};

@@ -22,13 +22,13 @@ pub(crate) fn start(
 ) -> Ran
     requires { Startable header sheet.now (lent links.old axis.old times.old marks.old positions.old accums.old)
         trace.old }
-    ensures* { λ r. ⌜ record {
+    ensures { record {
       run = lent links.new axis.new times.new marks.new
           positions.new accums.new;
       trace = trace.new;
-      result = r;
+      result = result;
     }
-        ≡ started_on header.counts sheet.now trace.old ⌝ }
+        ≡ started_on header.counts sheet.now trace.old }
 {
     fill(header, sheet, links, axis, times, marks, positions, accums);
     let c = header.counts;

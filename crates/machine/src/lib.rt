@@ -1,8 +1,9 @@
 // The plain machine: what a run of a model sheet means, in specs/. There is no function here, only the type that code and specs share.
+#![tactic(auto)]
 use model::Refusal;
 
 // How a run ends.
-#[derive(Drop)]
+#[derive(Clone, Copy)]
 pub enum End {
     // Main was current at position 0.
     Finished,

@@ -4,7 +4,7 @@ ghost use Rattle.model.specs.Answers.{code_of, value_of};
 
 use crate::Refusal;
 
-#[derive(Drop)]
+#[derive(Clone, Copy)]
 pub enum Answer {
     // Accepted, with nothing to tell.
     Done,

@@ -2,7 +2,7 @@
 
 // What a set call does. X is the link it is called on, Y the second party; clear and into take a head. The first four answer the head of
 // the set that X left, or none if it was in none; clear answers how many it removed.
-#[derive(Drop)]
+#[derive(Clone, Copy)]
 pub enum SetCall {
     // X leaves its set, if it is in one.
     Out(u32),
@@ -16,7 +16,7 @@ pub enum SetCall {
     Clear(u32),
 }
 
-#[derive(Drop)]
+#[derive(Clone, Copy)]
 pub enum SequencingCall {
     // Current waits T ticks: its notice moves behind all of equal or smaller time.
     Hold(i64),
@@ -34,7 +34,7 @@ pub enum SequencingCall {
     Finish,
 }
 
-#[derive(Drop)]
+#[derive(Clone, Copy)]
 pub enum Query {
     // The first and the last member of a head, or none.
     First(u32),

@@ -1,5 +1,7 @@
 // What every crate shares: a model's counts, the refusals, answers and verdicts. Linkages are numbered heads first, then processes, then
 // plain links, from 1; 0 means none.
+#![tactic(auto)]
+
 pub mod answer;
 pub mod call;
 pub mod verdict;
@@ -11,7 +13,7 @@ ghost use Rattle.model.specs.Counts.{made_of, in_limits, total, main, is_head, i
 use ring::wide;
 
 // Why a call is turned down.
-#[derive(Drop)]
+#[derive(Clone, Copy)]
 pub enum Refusal {
     // A count outside its limit, a table of another length, a trace that is too long.
     Size,
@@ -52,14 +54,14 @@ impl Refusal {
     }
 }
 
-#[derive(Drop)]
+#[derive(Clone, Copy)]
 pub struct Counts {
     pub heads: u32,
     pub processes: u32,
     pub plains: u32,
 }
 
-#[derive(Drop)]
+#[derive(Clone, Copy)]
 pub enum CountsMade {
     Made(Counts),
     Refused(Refusal),

@@ -1,7 +1,7 @@
 // What a judge says.
 use crate::Refusal;
 
-#[derive(Drop)]
+#[derive(Clone, Copy)]
 pub enum Verdict {
     Fine,
     Refused(Refusal),

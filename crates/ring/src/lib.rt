@@ -1,5 +1,7 @@
 // Two-way rings in a lent table of 2 × m words: the successor of i at i, its predecessor at m + i, 0 for none.
 // Core functions: callers have judged the table, or made it by these functions.
+#![tactic(auto)]
+
 ghost use Rattle.std.specs.Prelude.{◌≡◌, ◌*◌, ◌+◌, ◌<◌, length, get_or};
 ghost use Rattle.ring_laws.specs.Table.{Sound, Made, unlinked, linked_behind, linked_before, self_linked, steps};
 

@@ -1,5 +1,7 @@
 // The judge of rings: do the heads' rings hold all links that have not two zeros, each once, and does the predecessor undo the
 // successor? Each word is looked at a fixed number of times, and nothing is written.
+#![tactic(auto)]
+
 ghost use Rattle.std.specs.Prelude.{◌≡◌, ◌+◌, ◌*◌, ◌-◌, ◌<◌, ◌≤◌, length};
 ghost use Rattle.ring_laws.specs.Lists.{if◌then◌else◌};
 ghost use Rattle.ring_laws.specs.Stores.{sucs, pres};

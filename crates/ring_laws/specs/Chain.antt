@@ -1,6 +1,6 @@
 -- Chains of two-way rings, over two functions: S the successor, P the predecessor.
 use Rattle.std.specs.Prelude.{ℕ, ◌≡◌, ◌≢◌, ◌⊎◌, List, [], ◌∷◌}
-use Rattle.std.proofs.Common.{sym, ap, ◌∙◌, inl, inr, ⊎_elim, eq-eqb, ne_eqb}
+use Rattle.std.proofs.Common.{sym, ap, ◌∙◌, subst, inl, inr, ⊎_elim, eq-eqb, ne_eqb}
 use Rattle.ring_laws.specs.Lists.{In, without, behind, ahead, decide}
 use Rattle.ring_laws.specs.Distinct.{Dist}
 
@@ -135,7 +135,7 @@ module _ (S P S' P' : ℕ → ℕ) (x y : ℕ) (k : Put S P S' P' x y) where
       decide a y
       (λ e. rw (eq-eqb a y e) (
         put_first_lem a e,
-        (put_second a z e c.0, put_kept z ms b c.1 (λ i. free (inr i)) bx (λ i. d.0 (rw (← e) at i))),
+        (put_second a z e c.0, put_kept z ms b c.1 (λ i. free (inr i)) bx (λ i. d.0 (subst (λ (w : ℕ). In w (z ∷ ms)) (sym e) i))),
       ))
       (λ n. rw (ne_eqb a y n) (
         put_edge a z c.0 (λ e. free (inl (sym e))) (λ e. free (inr (inl (sym e)))) n,

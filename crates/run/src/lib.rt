@@ -1,4 +1,5 @@
 // The runner of model sheets: a run goes on from its lent tables, turn by turn, and writes a line for each accepted step.
+#![tactic(auto)]
 pub mod fresh;
 
 ghost use Rattle.std.specs.Prelude.{◌≡◌};
@@ -37,14 +38,14 @@ fn run_accepted(
     trace: &mut [u8],
 ) -> Ran
     requires { checked sheet.now ≡ Accepted header }
-    ensures* { λ r. ⌜ record {
+    ensures { record {
       run = lent links.new axis.new times.new marks.new
           positions.new accums.new;
       trace = trace.new;
-      result = r;
+      result = result;
     }
         ≡ checked_run (Accepted header) sheet.now (lent links.old axis.old times.old
-        marks.old positions.old accums.old) trace.old ⌝ }
+        marks.old positions.old accums.old) trace.old }
 {
     let c = header.counts;
     let v = judge_run(
@@ -78,14 +79,14 @@ pub fn run(
     accums: &mut [i64],
     trace: &mut [u8],
 ) -> Ran
-    ensures* { λ r. ⌜ record {
+    ensures { record {
       run = lent links.new axis.new times.new marks.new
           positions.new accums.new;
       trace = trace.new;
-      result = r;
+      result = result;
     }
         ≡ run_on sheet.now (lent links.old axis.old times.old marks.old
-        positions.old accums.old) trace.old ⌝ }
+        positions.old accums.old) trace.old }
 {
     let read = check(sheet);
     match read {

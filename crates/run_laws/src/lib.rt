@@ -1,5 +1,6 @@
 // Runs of model sheets: what a run call does to its tables and trace, that this is the plain machine's, and demand 3, in specs/. The code
 // is in `run_arms`, `run_step`, `run_turn`, `run_turns`, `run_fresh`, `run_judge`, `run_answer` and `run`.
+#![tactic(auto)]
 use machine::End;
 use model::Refusal;
 
@@ -10,14 +11,14 @@ pub const RUN_WORDS: usize = 192;
 pub const TRACE_LIMIT: usize = 65536;
 
 // What a run call answers: how many lines it wrote, and how it ended.
-#[derive(Drop)]
+#[derive(Clone, Copy)]
 pub struct Ran {
     pub lines: u32,
     pub end: End,
 }
 
 // What a step's call means for the process that makes it.
-#[derive(Drop)]
+#[derive(Clone, Copy)]
 pub enum Effect {
     // It stays current, and goes on at the record's next,
     Stays,
@@ -31,7 +32,7 @@ pub enum Effect {
 }
 
 // Why a stretch of turns ends.
-#[derive(Drop)]
+#[derive(Clone, Copy)]
 pub enum Pause {
     // The trace has no room for a line more.
     Full,
@@ -41,14 +42,14 @@ pub enum Pause {
 }
 
 // A stretch of turns: the byte that the next line would go to, and why it ends.
-#[derive(Drop)]
+#[derive(Clone, Copy)]
 pub struct Stretch {
     pub at: usize,
     pub pause: Pause,
 }
 
 // What one turn comes to.
-#[derive(Drop)]
+#[derive(Clone, Copy)]
 pub enum Turn {
     // Main was current at position 0.
     Finished,

@@ -1,4 +1,5 @@
 // Reads a sheet on standard input and prints its run: a line for each step, then how it ended.
+#![tactic(auto)]
 mod output;
 mod piece;
 mod show;

@@ -23,13 +23,13 @@ pub(crate) fn piece(
     k: usize,
 ) -> Ran
     requires { k ≤ length trace.old }
-    ensures* { λ r. ⌜ record {
+    ensures { record {
       run = lent links.new axis.new times.new marks.new
           positions.new accums.new;
-      result = r;
+      result = result;
     }
         ≡ left_by sheet.now (lent links.old axis.old times.old marks.old
-        positions.old accums.old) trace.old k ⌝ }
+        positions.old accums.old) trace.old k }
 {
     run(
         sheet,

@@ -1,5 +1,6 @@
 // Turn after turn on judged tables, until main has finished, the trace is full or a step is refused: stretches of turns, and between them
 // a turn whose call no stretch makes. Bounds of the sets' sizes stand beside the tables while this goes on.
+#![tactic(auto)]
 ghost use Rattle.std.specs.Prelude.{◌≡◌, ◌/◌, ◌≤◌, length};
 ghost use Rattle.run_laws.specs.Run.{lent, turns_on};
 ghost use Rattle.run_laws.specs.Standing.{Standing};
@@ -27,15 +28,15 @@ pub fn turns(
 ) -> Ran
     requires standing { Standing c sheet.now (lent links.old axis.old times.old marks.old positions.old accums.old) }
     requires trace_len_bound { length trace.old ≤ trace_limit }
-    ensures* { λ r. ⌜ record {
+    ensures { record {
       run = lent links.new axis.new times.new marks.new
           positions.new accums.new;
       trace = trace.new;
-      result = r;
+      result = result;
     }
         ≡ turns_on c sheet.now 0 (length trace.old / line_size)
         (lent links.old axis.old times.old marks.old positions.old
-        accums.old) trace.old ⌝ }
+        accums.old) trace.old }
 {
     let mut bounds = unknown_bounds(c);
     let end = trace.len();

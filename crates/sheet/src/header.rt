@@ -2,14 +2,14 @@
 use model::{Counts, Refusal};
 
 // The counts H, P and L, and the number R of records.
-#[derive(Drop)]
+#[derive(Clone, Copy)]
 pub struct Header {
     pub counts: Counts,
     pub records: u32,
 }
 
 // An accepted sheet's header, or the refusal.
-#[derive(Drop)]
+#[derive(Clone, Copy)]
 pub enum Checked {
     Accepted(Header),
     Refused(Refusal),

@@ -1,7 +1,7 @@
 // Which fields of a record an operation uses.
 
 // What a field x or y holds.
-#[derive(Drop)]
+#[derive(Clone, Copy)]
 pub enum Holds {
     // 0: it is not used.
     Nothing,
@@ -14,7 +14,7 @@ pub enum Holds {
 }
 
 // The fields that a record uses: clause and t or not, x and y as what.
-#[derive(Drop)]
+#[derive(Clone, Copy)]
 pub struct Uses {
     pub clause: bool,
     pub x: Holds,

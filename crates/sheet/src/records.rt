@@ -14,7 +14,7 @@ pub const RECORD_BYTES: usize = 24;
 pub const CURRENT: u32 = 65536;
 
 // A record's fields, t as a signed number.
-#[derive(Drop)]
+#[derive(Clone, Copy)]
 pub struct Record {
     pub next: u32,
     pub operation: u8,

@@ -1,6 +1,8 @@
 // The trace: a line is the time (64 bits), the process (32) and the record (32), little-endian, 16 bytes in all. Where a line goes and
 // whether it fits is found with no division, remainder or multiplication; a test reads the source for them.
 // Core functions: the caller knows that what is written lies within the slice.
+#![tactic(auto)]
+
 mod bytes;
 
 ghost use Rattle.std.specs.Prelude.{◌≡◌, ◌+◌, ◌/◌, ◌≤◌, length};

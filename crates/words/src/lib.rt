@@ -1,4 +1,6 @@
 // Little-endian words in a lent slice of bytes. Core functions: the caller knows that the word lies within the slice.
+#![tactic(auto)]
+
 ghost use Rattle.std.specs.Prelude.{◌≡◌, ◌+◌, ◌≤◌, ◌<◌, length};
 ghost use Rattle.std.specs.Int.{w64};
 ghost use Rattle.std.proofs.Common.{to_z};

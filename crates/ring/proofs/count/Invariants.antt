@@ -1,0 +1,9 @@
+use Prim.Native.Nat.{◌-◌}
+use Rattle.ring.proofs.Counting.{Counting, counting_start, counting_turn, counting_found, counting_out}
+use Rattle.ring.proofs.count.Given as goal
+
+abbrev pub invariant-loop-n : goal.invariant-loop-n
+invariant-loop-n l = Counting l.t l.m l.h l.most l.n l.i
+
+abbrev pub decreases-loop-n : goal.decreases-loop-n
+decreases-loop-n l = l.most - l.n

@@ -1,0 +1,7 @@
+use borrow.Author.Rules.{rules}
+use Rattle.words.specs.Words.{u32_at}
+use Rattle.words.proofs.u32_at.Goals as goal
+
+pub returns : goal.returns
+unfolding u32_at
+returns c = cc
