@@ -1,6 +1,5 @@
 -- The public calls of accum: refusals 1, 2 and 3, or the update at the model's time.
-use Rattle.std.specs.Prelude.{ℕ, ◌-◌, ◌*◌, Bool, true, false, ◌&&◌, List, eqb, leb, length, ℤ}
-use Rattle.ring_laws.specs.Lists.{if◌then◌else◌}
+use Rattle.std.specs.Prelude.{ℕ, ◌-◌, ◌*◌, Bool, true, false, ◌&&◌, List, eqb, leb, length, ℤ, if◌then◌else◌}
 use Rattle.model.specs.declared.Counts.{Counts}
 use Rattle.model.specs.declared.Refusal.TheVariants.{Size, Operand}
 use Rattle.model.specs.declared.answer.Answer.TheVariants.{Done, Refused as Turned}

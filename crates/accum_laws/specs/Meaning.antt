@@ -1,11 +1,11 @@
 -- What the calls of accum mean, for every well-formed model: the update at the model's time, by value, on a number of a flat list, and on
 -- a number of a list of structs; 1 exactly for a list that is not as said, 3 exactly for a number that is not in it. And on any tables a
 -- refused call changes no word.
-use Rattle.std.specs.Prelude.{ℕ, ◌≡◌, Bool, List, ℤ, length}
+use Rattle.std.specs.Prelude.{ℕ, ◌≡◌, Bool, List, ℤ, length, if◌then◌else◌}
 use Rattle.std.proofs.Math.Path.{refl, ap}
 use Rattle.std.proofs.Common.{◌∙◌}
 use Rattle.std.proofs.Math.Bool.{true, false}
-use Rattle.ring_laws.specs.Lists.{if◌then◌else◌, clash}
+use Rattle.ring_laws.specs.Lists.{clash}
 use Rattle.model.specs.declared.Counts.{Counts}
 use Rattle.model.specs.declared.Refusal.{Refusal}
 use Rattle.model.specs.declared.Refusal.TheVariants.{Size, Operand}

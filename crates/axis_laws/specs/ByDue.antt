@@ -1,8 +1,8 @@
 -- Notices and tables: insertion before the first notice due from w on, the listed times, and what Spells says of notices.
-use Rattle.std.specs.Prelude.{ℕ, zero, suc, ◌+◌, ◌-◌, ◌<◌, ◌≤◌, ◌≡◌, refl, ◌≢◌, List, [], ◌∷◌, ltb, set}
-use Rattle.std.proofs.Common.{sym, ap, ◌∙◌, inl, inr, arith, not-suc-le-zero, eq-eqb, ne_eqb, le-leb, lt-ltb, le-ltb}
+use Rattle.std.specs.Prelude.{ℕ, zero, suc, ◌+◌, ◌-◌, ◌<◌, ◌≤◌, ◌≡◌, refl, ◌≢◌, List, [], ◌∷◌, ltb, set, if◌then◌else◌}
+use Rattle.std.proofs.Common.{sym, ap, ◌∙◌, inl, inr, arith, not-suc-le-zero, eq-eqb, ne_eqb, le-leb, lt-ltb, le-ltb, subst}
 use Rattle.std.proofs.lemmas.Bool.{lt-leb}
-use Rattle.ring_laws.specs.Lists.{In, below, behind, behind_head, if◌then◌else◌}
+use Rattle.ring_laws.specs.Lists.{In, below, behind, behind_head}
 use Rattle.ring_laws.specs.Distinct.{Dist}
 use Rattle.ring_laws.specs.Tabulate.{listed}
 use Rattle.model.specs.declared.Counts.{Counts}
@@ -48,8 +48,10 @@ module _ (c : Counts) (w : ℕ) where
   spot_on a [] = inl refl
   spot_on a (k ∷ ks) =
       below k.due w
-      (λ l. rw (lt-ltb k.due w l) (inr (spot_on (k.who - c.heads) ks)))
-      (λ l. rw (le-ltb k.due w l) (inl refl))
+      (λ l.
+      let e : spot_in c w a (k ∷ ks) ≡ spot_in c w (k.who - c.heads) ks = rw (lt-ltb k.due w l) in
+      subst (λ (v : ℕ). In v (a ∷ places c (k ∷ ks))) (sym e) (inr (spot_on (k.who - c.heads) ks)))
+      (λ l. inl (rw (le-ltb k.due w l)))
 
 module _ (c : Counts) (w : ℕ) (n : Notice) where
   pub behind_spot : (a : ℕ) (ns : List Notice) → Dist (a ∷ places c ns)
@@ -58,9 +60,14 @@ module _ (c : Counts) (w : ℕ) (n : Notice) where
   behind_spot a (k ∷ ks) d =
       below k.due w
       (λ l.
-      rw (lt-ltb k.due w l, ne_eqb a (spot_in c w (k.who - c.heads) ks) (λ e. d.0 (rw e (spot_on c w (k.who - c.heads) ks))))
+      let e : spot_in c w a (k ∷ ks) ≡ spot_in c w (k.who - c.heads) ks = rw (lt-ltb k.due w l) in
+      ap (λ (v : ℕ). behind v (n.who - c.heads) a (places c (k ∷ ks))) e ∙
+      rw (lt-ltb k.due w l, ne_eqb a (spot_in c w (k.who - c.heads) ks) (λ e. d.0 (subst (λ (v : ℕ). In v (places c (k ∷ ks))) (sym e) (spot_on c w (k.who - c.heads) ks))))
       (ap (λ (r : List ℕ). (k.who - c.heads) ∷ r) (behind_spot (k.who - c.heads) ks d.1)))
-      (λ l. rw (le-ltb k.due w l) (behind_head a (n.who - c.heads) (places c (k ∷ ks))))
+      (λ l.
+      let e : spot_in c w a (k ∷ ks) ≡ a = rw (le-ltb k.due w l) in
+      ap (λ (v : ℕ). behind v (n.who - c.heads) a (places c (k ∷ ks))) e ∙
+      rw (le-ltb k.due w l) (behind_head a (n.who - c.heads) (places c (k ∷ ks))))
 
 -- ---- a listed table after one store
 

@@ -1,6 +1,6 @@
 -- The rings of the same times, over a successor S and a predecessor P: a ring has no first place, so a change of leader changes no word.
 use Rattle.std.specs.Prelude.{ℕ, ◌≡◌, refl, ◌≢◌, ◌⊎◌, List, [], ◌∷◌, ◌++◌, eqb}
-use Rattle.std.proofs.Common.{sym, ap, ◌∙◌, inl, inr, ⊎_elim, eq-eqb, ne_eqb}
+use Rattle.std.proofs.Common.{sym, ap, ◌∙◌, inl, inr, ⊎_elim, eq-eqb, ne_eqb, subst}
 use Rattle.ring_laws.specs.Lists.{In, without, behind, ahead, decide, inside, without_none, behind_none}
 use Rattle.ring_laws.specs.Chain.{Edge, Chain, forth, back, next_in_lem, prev_in_lem, no_self, Cut, cut_chain, Put, put_chain, behind_ahead}
 use Rattle.ring_laws.specs.Distinct.{Dist, in_left, in_right}
@@ -98,7 +98,7 @@ module _ (S P S' P' : ℕ → ℕ) where
       (λ n.
       let out : In x g.others → ⊥ = λ i. no_self S P g.leader g.others g.leader x c.0 (λ e. n (sym e)) i s in
       rw (ne_eqb g.leader x n, ← (without_none x g.others out)) (
-        same_loop g c.0 (λ y i. f y (λ e. ⊎_elim (λ q. n (sym q ∙ e)) (λ j. out (rw e at j)) i)),
+        same_loop g c.0 (λ y i. f y (λ e. ⊎_elim (λ q. n (sym q ∙ e)) (λ j. out (subst (λ (v : ℕ). In v g.others) e j)) i)),
         gone_loops x gs c.1 (later_dist g gs d) s f,
       ))
     where

@@ -1,10 +1,10 @@
 -- The mark of one place: the judge's test of it, and what the test means. S and P are the rings on which a process with a notice stands.
-use Rattle.std.specs.Prelude.{ℕ, ◌≡◌, refl, ◌≢◌, ◌⊎◌, Bool, true, false, List, eqb}
+use Rattle.std.specs.Prelude.{ℕ, ◌≡◌, refl, ◌≢◌, ◌⊎◌, Bool, true, false, List, eqb, if◌then◌else◌}
 use Rattle.std.proofs.Common.{sym, ◌∙◌, inl, inr}
 use native.Mathlib.Omega.{arith}
 use Rattle.std.proofs.Math.ListN.{get_or}
 use borrow.Author.Tests.{eq-eqb, ne_eqb}
-use Rattle.ring_laws.specs.Lists.{if◌then◌else◌, decide, clash}
+use Rattle.ring_laws.specs.Lists.{decide, clash}
 use Rattle.ring_laws.specs.Judge.{idle}
 
 -- a place that is marked terminated is idle, and is not main's, the first

@@ -1,7 +1,7 @@
 -- nextev on the tables: the process of the notice after x's, none where x's is the last, as the list of notices has it.
-use Rattle.std.specs.Prelude.{ℕ, ◌+◌, ◌-◌, ◌<◌, ◌≤◌, ◌≡◌, refl, ◌≢◌, ◌⊎◌, List, [], ◌∷◌, ◌++◌, eqb}
+use Rattle.std.specs.Prelude.{ℕ, ◌+◌, ◌-◌, ◌<◌, ◌≤◌, ◌≡◌, refl, ◌≢◌, ◌⊎◌, List, [], ◌∷◌, ◌++◌, eqb, if◌then◌else◌}
 use Rattle.std.proofs.Common.{sym, ap, ◌∙◌, subst, inl, inr, ⊎_elim, arith, eq-eqb, ne_eqb}
-use Rattle.ring_laws.specs.Lists.{if◌then◌else◌, In, decide}
+use Rattle.ring_laws.specs.Lists.{In, decide}
 use Rattle.model.specs.declared.Counts.{Counts}
 use Rattle.model.specs.Counts.{linkage_at}
 use Rattle.axis_laws.specs.Notices.{Notice, whos}

@@ -1,6 +1,5 @@
 -- The sequencing operations on a plain list of notices: the sequencing set in order, current's notice first.
-use Rattle.std.specs.Prelude.{ℕ, Bool, true, false, List, [], ◌∷◌, leb, ltb, eqb}
-use Rattle.ring_laws.specs.Lists.{if◌then◌else◌}
+use Rattle.std.specs.Prelude.{ℕ, Bool, true, false, List, [], ◌∷◌, leb, ltb, eqb, if◌then◌else◌}
 use Rattle.axis_laws.specs.Notices.{Notice}
 
 -- behind all of equal or smaller time

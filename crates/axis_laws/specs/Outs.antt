@@ -106,7 +106,8 @@ module _ (x y : ℕ) where
       which y g gs i
       (λ own.
       let q : u ≡ g.due = e ∙ due_here y g.due (notice x u) (g.leader ∷ g.others) (spelled_out gs) own in
-      rw (q, behind_absent gs (own_not_later y g gs d own)) (sym (after_here x y g.due g.leader g.others (spelled_out gs) own)))
+      rw (behind_absent gs (own_not_later y g gs d own)) (sym (after_here x y g.due g.leader g.others (spelled_out gs) own)
+      ∙ ap (λ (v : ℕ). after y (notice x v) (spelled_out (g ∷ gs))) (sym q)))
       (λ later.
       let out : In y (g.leader ∷ g.others) → ⊥ = λ own. own_not_later y g gs d own later in
       let q : u ≡ due_of y (spelled_out gs) = e ∙ due_past y g.due (notice x u) (g.leader ∷ g.others) (spelled_out gs) out in
@@ -122,8 +123,9 @@ module _ (x y : ℕ) where
       (λ own.
       let q : u ≡ g.due = e ∙ due_here y g.due (notice x u) (g.leader ∷ g.others) (spelled_out gs) own in
       let other : In y g.others = ⊎_elim (λ e. absurd (o (inl e))) (λ j. j) own in
-      rw (q, ahead_absent gs (own_not_later y g gs d own), ne_eqb g.leader y (λ e. o (inl (sym e))))
-      (ap (λ (r : List Notice). notice g.leader g.due ∷ r) (sym (before_here x y g.due g.others g.leader (spelled_out gs) other))))
+      rw (ahead_absent gs (own_not_later y g gs d own), ne_eqb g.leader y (λ e. o (inl (sym e))))
+      (ap (λ (r : List Notice). notice g.leader g.due ∷ r) (sym (before_here x y g.due g.others g.leader (spelled_out gs) other)
+      ∙ ap (λ (v : ℕ). before y (notice x v) (together g.due g.others ++ spelled_out gs)) (sym q))))
       (λ later.
       let out : In y (g.leader ∷ g.others) → ⊥ = λ own. own_not_later y g gs d own later in
       let q : u ≡ due_of y (spelled_out gs) = e ∙ due_past y g.due (notice x u) (g.leader ∷ g.others) (spelled_out gs) out in
@@ -181,5 +183,5 @@ module _ (x u : ℕ) where
       (ap (λ (k : List Notice). together g.due g.others ++ k) (out_first gs)
       ∙ sym (front_past x g.due (notice x u) g.others (spelled_out gs) l))))
       (λ l. decide g.due u
-      (λ e. rw (le-ltb g.due u l, eq-eqb g.due u e, e))
+      (λ e. rw (le-ltb g.due u l, eq-eqb g.due u e) (ap (λ (v : ℕ). notice x v ∷ spelled_out (g ∷ gs)) e))
       (λ n. rw (le-ltb g.due u l, ne_eqb g.due u n)))

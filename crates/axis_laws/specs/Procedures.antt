@@ -1,7 +1,6 @@
 -- The statements of the sequencing procedures on the tables of the axis, in the code's own shape: m is P + 2, the axis's own head stands at m - 1,
 -- and a process's notice at its place.
-use Rattle.std.specs.Prelude.{ℕ, suc, ◌+◌, ◌-◌, Bool, true, false, List, eqb, get_or, set}
-use Rattle.ring_laws.specs.Lists.{if◌then◌else◌}
+use Rattle.std.specs.Prelude.{ℕ, suc, ◌+◌, ◌-◌, Bool, true, false, List, eqb, get_or, set, if◌then◌else◌}
 use Rattle.ring_laws.specs.Table.{unlinked, linked_behind, linked_before, self_linked}
 use Rattle.axis_laws.specs.Seek.{found_on}
 use Rattle.axis_laws.specs.Swap.{handed_over}

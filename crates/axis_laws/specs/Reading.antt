@@ -1,7 +1,7 @@
 -- Events of the axis with their times, read as notices, and marks read as terminated processes; and back.
-use Rattle.std.specs.Prelude.{ℕ, zero, suc, ◌+◌, ◌-◌, ◌<◌, ◌≤◌, ◌≡◌, refl, ◌⊎◌, List, [], ◌∷◌, eqb, length, get_or}
+use Rattle.std.specs.Prelude.{ℕ, zero, suc, ◌+◌, ◌-◌, ◌<◌, ◌≤◌, ◌≡◌, refl, ◌⊎◌, List, [], ◌∷◌, eqb, length, get_or, if◌then◌else◌}
 use Rattle.std.proofs.Common.{sym, ap, ap₂, ◌∙◌, inl, inr, ⊎_elim, arith, eq-eqb, ne_eqb}
-use Rattle.ring_laws.specs.Lists.{if◌then◌else◌, In, decide, test}
+use Rattle.ring_laws.specs.Lists.{In, decide, test}
 use Rattle.ring_laws.specs.Distinct.{Dist}
 use Rattle.model.specs.declared.Counts.{Counts}
 use Rattle.model.specs.Counts.{limit}

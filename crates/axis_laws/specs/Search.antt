@@ -1,7 +1,7 @@
 -- The search among distinct times: what it finds, and what is put in there.
-use Rattle.std.specs.Prelude.{ℕ, suc, ◌+◌, ◌-◌, ◌<◌, ◌≤◌, ◌≡◌, refl, ◌≢◌, ◌⊎◌, true, false, List, [], ◌∷◌, ◌++◌, eqb, ltb, length, get_or}
+use Rattle.std.specs.Prelude.{ℕ, suc, ◌+◌, ◌-◌, ◌<◌, ◌≤◌, ◌≡◌, refl, ◌≢◌, ◌⊎◌, true, false, List, [], ◌∷◌, ◌++◌, eqb, ltb, length, get_or, if◌then◌else◌}
 use Rattle.std.proofs.Common.{sym, ap, ap₂, ◌∙◌, subst, inl, inr, ⊎_elim, arith, get_or-take, eq-eqb, ne_eqb, lt-ltb, le-ltb}
-use Rattle.ring_laws.specs.Lists.{if◌then◌else◌, In, behind, ahead, decide, below, behind_head, ahead_end}
+use Rattle.ring_laws.specs.Lists.{In, behind, ahead, decide, below, behind_head, ahead_end}
 use Rattle.ring_laws.specs.Distinct.{Dist}
 use Rattle.ring_laws.specs.Chain.{Chain}
 use Rattle.ring_laws.specs.Stores.{sucs, pres}
@@ -112,8 +112,10 @@ pub spot_on : (w a : ℕ) (gs : List Group) → In (spot w a gs) (a ∷ leaders 
 spot_on w a [] = inl refl
 spot_on w a (g ∷ gs) =
     below g.due w
-    (λ l. rw (lt-ltb g.due w l) (inr (spot_on w g.leader gs)))
-    (λ l. rw (le-ltb g.due w l) (inl refl))
+    (λ l.
+    let e : spot w a (g ∷ gs) ≡ spot w g.leader gs = rw (lt-ltb g.due w l) in
+    subst (λ (v : ℕ). In v (a ∷ leaders (g ∷ gs))) (sym e) (inr (spot_on w g.leader gs)))
+    (λ l. inl (rw (le-ltb g.due w l)))
 
 -- u is a time: h leads it, and x goes in there
 pub record Shared (x u h : ℕ) (gs : List Group) : Type 0 where
@@ -172,10 +174,15 @@ module _ (x u : ℕ) where
   new_leads a [] o d = rw (eq-eqb a a refl)
   new_leads a (g ∷ gs) o d =
       below g.due u
-      (λ l. rw (lt-ltb g.due (suc u) (omega arith), lt-ltb g.due u l, ne_eqb a (spot (suc u) g.leader gs) (λ e. d.0 (rw e (spot_on (suc u) g.leader gs))))
+      (λ l.
+      let e : spot (suc u) a (g ∷ gs) ≡ spot (suc u) g.leader gs = rw (lt-ltb g.due (suc u) (omega arith)) in
+      ap (λ (v : ℕ). behind v x a (leaders (g ∷ gs))) e ∙
+      rw (lt-ltb g.due u l, ne_eqb a (spot (suc u) g.leader gs) (λ e. d.0 (subst (λ (v : ℕ). In v (leaders (g ∷ gs))) (sym e) (spot_on (suc u) g.leader gs))))
       (ap (λ (k : List ℕ). g.leader ∷ k) (new_leads g.leader gs (λ i. o (inr i)) d.1)))
       (λ l. let n : g.due ≢ u = λ e. o (inl e) in
-      rw (le-ltb g.due (suc u) (omega arith), le-ltb g.due u l, ne_eqb g.due u n) (behind_head a x (g.leader ∷ leaders gs)))
+      let e : spot (suc u) a (g ∷ gs) ≡ a = rw (le-ltb g.due (suc u) (omega arith)) in
+      ap (λ (v : ℕ). behind v x a (leaders (g ∷ gs))) e ∙
+      rw (le-ltb g.due u l, ne_eqb g.due u n) (behind_head a x (g.leader ∷ leaders gs)))
 
   pub new_loops : (S P : ℕ → ℕ) (gs : List Group) → (At u gs → ⊥) → Loops S P gs → S x ≡ x → P x ≡ x → Loops S P (last_at x u gs)
   new_loops S P [] o c s p = (record { next = s; prev = p }, tt)

@@ -1,7 +1,7 @@
 -- The short way of a process that is alone at its time: only the ring of times changes, and its own ring where it joins others. It makes what taking
 -- its notice away and putting it back makes, with nine stores for sixteen.
 use Prim.Native.Nat.{ℕ, suc, ◌+◌, ◌*◌, ◌-◌, ◌<◌, ◌≤◌}
-use Rattle.std.specs.Prelude.{◌≡◌, refl, ◌≢◌, ◌⊎◌, Bool, length}
+use Rattle.std.specs.Prelude.{◌≡◌, refl, ◌≢◌, ◌⊎◌, Bool, length, if◌then◌else◌}
 use Rattle.std.proofs.Math.Path.{sym, ap, subst}
 use Rattle.std.proofs.Common.{ap₂, ◌∙◌, inl, inr, ⊎_elim, arith, get_or-take, get_or-set_other, set-set}
 use Rattle.std.proofs.Math.Bool.{true, false}
@@ -11,7 +11,7 @@ use Rattle.std.proofs.Math.ListN.{get_or, set}
 use Rattle.std.proofs.lemmas.List.{set_comm}
 use Rattle.std.proofs.Math.Seq.{set-get_or}
 use borrow.Author.Tests.{eq-eqb, ne_eqb}
-use Rattle.ring_laws.specs.Lists.{if◌then◌else◌, In, clash}
+use Rattle.ring_laws.specs.Lists.{In, clash}
 use Rattle.ring_laws.specs.Table.{cut, unlinked, linked_behind, linked_before, self_linked}
 use Rattle.ring_laws.specs.Stores.{sucs, pres, suc_at}
 use Rattle.axis_laws.specs.Notices.{whos}

@@ -1,6 +1,6 @@
 -- The tables of the axis, m being P + 2, and the groups that they spell.
-use Rattle.std.specs.Prelude.{ℕ, ◌+◌, ◌*◌, ◌-◌, ◌<◌, ◌≡◌, Bool, true, false, not, ◌&&◌, List, eqb, length, get_or, take, drop}
-use Rattle.ring_laws.specs.Lists.{if◌then◌else◌, In}
+use Rattle.std.specs.Prelude.{ℕ, ◌+◌, ◌*◌, ◌-◌, ◌<◌, ◌≡◌, Bool, true, false, not, ◌&&◌, List, eqb, length, get_or, take, drop, if◌then◌else◌}
+use Rattle.ring_laws.specs.Lists.{In}
 use Rattle.ring_laws.specs.Distinct.{Dist}
 use Rattle.ring_laws.specs.Stores.{sucs, pres}
 use Rattle.axis_laws.specs.Notices.{Notice, due_of}

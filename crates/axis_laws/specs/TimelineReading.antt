@@ -1,9 +1,9 @@
 -- Reading the tables: current, its time, the next notice, whether there is a second.
-use Rattle.std.specs.Prelude.{ℕ, suc, ◌+◌, ◌-◌, ◌<◌, ◌≤◌, ◌≡◌, refl, ◌≢◌, ◌⊎◌, true, false, not, List, [], ◌∷◌, ◌++◌, eqb, length}
+use Rattle.std.specs.Prelude.{ℕ, suc, ◌+◌, ◌-◌, ◌<◌, ◌≤◌, ◌≡◌, refl, ◌≢◌, ◌⊎◌, true, false, not, List, [], ◌∷◌, ◌++◌, eqb, length, if◌then◌else◌}
 use Rattle.std.proofs.Math.Path.{sym}
 use Rattle.std.proofs.Common.{ap, ◌∙◌, subst, inl, inr, ⊎_elim, append_assoc, arith, eq-eqb, ne_eqb}
 use Rattle.std.proofs.Math.ListN.{get_or}
-use Rattle.ring_laws.specs.Lists.{if◌then◌else◌, In, decide}
+use Rattle.ring_laws.specs.Lists.{In, decide}
 use Rattle.ring_laws.specs.Distinct.{Dist, in_left, in_right}
 use Rattle.ring_laws.specs.Chain.{Chain}
 use Rattle.ring_laws.specs.Stores.{sucs, pres, suc_at}

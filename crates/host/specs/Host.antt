@@ -1,10 +1,9 @@
 -- "The C host hands over the sheet's bytes and a trace buffer, and gets a fresh run. The returned number is lines × 256 + code":
 -- the number and every byte of the trace are the plain machine's, from the fresh machine on.
-use Rattle.std.specs.Prelude.{ℕ, ◌+◌, ◌*◌, ◌≤◌, ◌<◌, ◌≡◌, true, List, ◌++◌, length, drop}
+use Rattle.std.specs.Prelude.{ℕ, ◌+◌, ◌*◌, ◌≤◌, ◌<◌, ◌≡◌, true, List, ◌++◌, length, drop, if◌then◌else◌}
 use Rattle.std.proofs.Math.Path.{sym, ap, subst}
 use Rattle.std.proofs.Common.{◌∙◌}
 use borrow.Author.Tests.{lt-leb}
-use Rattle.ring_laws.specs.Lists.{if◌then◌else◌}
 use Rattle.model.specs.declared.Counts.{Counts}
 use Rattle.model.specs.declared.Refusal.{Refusal}
 use Rattle.model.specs.declared.Refusal.TheVariants.{Size}

@@ -1,7 +1,7 @@
 -- The order of ties, with its history: which step scheduled each notice last, and how. "A notice is scheduled by the step that last
 -- placed it: hold (moved or not), activate or reactivate; main's first comes before all."
-use Rattle.std.specs.Prelude.{ℕ, zero, suc, ◌-◌, ◌<◌, ◌≡◌, ◌≢◌, Bool, false, not, ◌&&◌, ◌||◌, List, leb, eqb}
-use Rattle.ring_laws.specs.Lists.{if◌then◌else◌, In}
+use Rattle.std.specs.Prelude.{ℕ, zero, suc, ◌-◌, ◌<◌, ◌≡◌, ◌≢◌, Bool, false, not, ◌&&◌, ◌||◌, List, leb, eqb, if◌then◌else◌}
+use Rattle.ring_laws.specs.Lists.{In}
 use Rattle.axis_laws.specs.Notices.{Notice, whos, due_of}
 use Rattle.model_laws.specs.Tables.{Lists}
 use Rattle.model_laws.specs.Now.{current}

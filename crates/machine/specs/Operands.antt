@@ -1,6 +1,5 @@
 -- What an operand of a record means, on the machine's lists. Document 01's rule, amended by request 2.4: it takes the operation.
-use Rattle.std.specs.Prelude.{ℕ, ◌-◌, Bool, ◌||◌, List, [], ◌∷◌, ltb, eqb}
-use Rattle.ring_laws.specs.Lists.{if◌then◌else◌}
+use Rattle.std.specs.Prelude.{ℕ, ◌-◌, Bool, ◌||◌, List, [], ◌∷◌, ltb, eqb, if◌then◌else◌}
 use Rattle.model.specs.declared.Counts.{Counts}
 use Rattle.model.specs.Counts.{is_process}
 use Rattle.model_laws.specs.Tables.{Lists, members_of}

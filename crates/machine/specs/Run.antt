@@ -1,6 +1,5 @@
 -- Turns, run calls, lists of run calls, and the machine that is never cut.
-use Rattle.std.specs.Prelude.{ℕ, zero, suc, ◌/◌, Bool, ◌&&◌, List, [], ◌∷◌, ◌++◌, leb, eqb}
-use Rattle.ring_laws.specs.Lists.{if◌then◌else◌}
+use Rattle.std.specs.Prelude.{ℕ, zero, suc, ◌/◌, Bool, ◌&&◌, List, [], ◌∷◌, ◌++◌, leb, eqb, if◌then◌else◌}
 use Rattle.model.specs.declared.Refusal.TheVariants.{Size}
 use Rattle.model.specs.Counts.{main}
 use Rattle.model_laws.specs.Now.{current}

@@ -1,6 +1,5 @@
 -- One step: the call it makes, where the stepping process goes, and the line.
-use Rattle.std.specs.Prelude.{ℕ, ◌-◌, Bool, true, false, ◌&&◌, eqb, pos, get_or}
-use Rattle.ring_laws.specs.Lists.{if◌then◌else◌}
+use Rattle.std.specs.Prelude.{ℕ, ◌-◌, Bool, true, false, ◌&&◌, eqb, pos, get_or, if◌then◌else◌}
 use Rattle.model.specs.declared.Counts.{Counts}
 use Rattle.model.specs.declared.call.SetCall.TheVariants.{Out, Follow, Precede, Into, Clear}
 use Rattle.model_laws.specs.Tables.{Lists, members_of}

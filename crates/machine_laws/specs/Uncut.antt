@@ -1,12 +1,11 @@
 -- A list of calls, joined, is the beginning of the machine never cut: its lines are the first ones, and the machine after the calls is
 -- that machine after as many steps.
 use Prim.Native.Nat.{ℕ, zero, suc, ◌/◌}
-use Rattle.std.specs.Prelude.{◌≡◌, true, false, leb, length}
+use Rattle.std.specs.Prelude.{◌≡◌, true, false, leb, length, if◌then◌else◌}
 use Rattle.std.proofs.Math.Path.{refl, sym, ap}
 use Rattle.std.proofs.Common.{◌∙◌, subst}
 use Rattle.std.proofs.Math.Bool.{Bool}
 use mathlib.Core.List.{List, [], ◌∷◌, ◌++◌}
-use Rattle.ring_laws.specs.Lists.{if◌then◌else◌}
 use Rattle.model.specs.declared.Refusal.TheVariants.{Size}
 use Rattle.sheet.specs.Sheet.{Sheet}
 use Rattle.machine.specs.declared.End.TheVariants.{Full, Refused}

@@ -1,9 +1,9 @@
 -- A model's counts H, P and L, their limits, and the kinds of numbers: "heads first, then processes, then plain links, from 1;
 -- 0 means none".
-use Rattle.std.specs.Prelude.{ℕ, ◌+◌, ◌-◌, ◌≤◌, ◌<◌, ◌≡◌, refl, Bool, true, false, not, ◌&&◌, leb, ltb}
+use Rattle.std.specs.Prelude.{ℕ, ◌+◌, ◌-◌, ◌≤◌, ◌<◌, ◌≡◌, refl, Bool, true, false, not, ◌&&◌, leb, ltb, if◌then◌else◌}
 use Rattle.std.proofs.Common.{sym, ◌∙◌}
 use borrow.Author.Tests.{leb-true, le-leb, lt-leb, not-true, not-false}
-use Rattle.ring_laws.specs.Lists.{if◌then◌else◌, test, clash}
+use Rattle.ring_laws.specs.Lists.{test, clash}
 use Rattle.model.specs.declared.Counts.{Counts}
 use Rattle.model.specs.declared.CountsMade.{CountsMade}
 use Rattle.model.specs.declared.CountsMade.TheVariants.{Made, Refused}

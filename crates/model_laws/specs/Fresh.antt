@@ -1,6 +1,6 @@
 -- "A fresh model has empty sets and one notice, main at 0": its tables by the published statements, and the lists they spell.
 use Prim.Native.Nat.{ℕ, zero, suc, ◌+◌, ◌*◌, ◌-◌, ◌<◌, ◌≤◌}
-use Rattle.std.specs.Prelude.{◌≡◌, refl, ◌≢◌, ◌⊎◌, Bool, true, false, ◌&&◌, length, get_or, replicate}
+use Rattle.std.specs.Prelude.{◌≡◌, refl, ◌≢◌, ◌⊎◌, Bool, true, false, ◌&&◌, length, get_or, replicate, if◌then◌else◌}
 use Rattle.std.proofs.Math.Path.{sym, ap}
 use Rattle.std.proofs.Common.{◌∙◌, subst}
 use Rattle.std.proofs.Math.Logic.{inl, inr, ⊎_elim}
@@ -8,7 +8,7 @@ use mathlib.Core.List.{List, [], ◌∷◌}
 use native.Mathlib.Omega.{arith}
 use Rattle.std.proofs.lemmas.List.{length-replicate}
 use borrow.Author.Tests.{eq-eqb, eqb-true, eqb-false, ne_eqb, leb-true, leb-false}
-use Rattle.ring_laws.specs.Lists.{if◌then◌else◌, ahead, decide, zeros, clash}
+use Rattle.ring_laws.specs.Lists.{ahead, decide, zeros, clash}
 use Rattle.ring_laws.specs.Rings.{Link}
 use Rattle.ring_laws.specs.Table.{self_linked, linked_before}
 use Rattle.ring_laws.specs.Stores.{sucs, pres, suc_at}

@@ -1,6 +1,5 @@
 -- What the judge of a model computes: limits and lengths (refusal 1), then rings, times and marks (refusal 2).
-use Rattle.std.specs.Prelude.{ℕ, zero, suc, ◌+◌, ◌*◌, Bool, true, false, ◌&&◌, List, eqb, leb, ltb, length, get_or}
-use Rattle.ring_laws.specs.Lists.{if◌then◌else◌}
+use Rattle.std.specs.Prelude.{ℕ, zero, suc, ◌+◌, ◌*◌, Bool, true, false, ◌&&◌, List, eqb, leb, ltb, length, get_or, if◌then◌else◌}
 use Rattle.ring_laws.specs.Stores.{sucs, pres}
 use Rattle.ring_laws.specs.Judge.{idle, rings_fine}
 use Rattle.model.specs.declared.Counts.{Counts}

@@ -1,4 +1,5 @@
 -- The laws that the judge's code cites: the invariants of its loops, and what each return answers.
+use Rattle.std.specs.Prelude.{if◌then◌else◌}
 use Prim.Native.Nat.{ℕ, suc, ◌+◌, ◌-◌, ◌<◌, ◌≤◌}
 use mathlib.Core.Path.{◌≡◌, refl, sym, ap, ◌∙◌}
 use mathlib.Core.Logic.{◌≢◌}
@@ -9,7 +10,7 @@ use native.Mathlib.Numerals.{add-one}
 use lib.Dec.{eqb}
 use lib.ListN.{length, get_or}
 use borrow.Author.Tests.{not-true, not-false}
-use Rattle.ring_laws.specs.Lists.{if◌then◌else◌, decide, test}
+use Rattle.ring_laws.specs.Lists.{decide, test}
 use Rattle.ring_laws.specs.Stores.{sucs, pres, suc_at}
 use Rattle.ring_laws.specs.Judge.{Space, WalkStep, Bounded, allowed, step, walk, closed, idle, busy, rings_fine}
 use Rattle.ring_laws.specs.RingWalk.{allowed_mean, step_not, step_one_way, step_is, walk_broken, walk_back, walk_short, walk_on}

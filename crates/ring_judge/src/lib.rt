@@ -2,8 +2,7 @@
 // successor? Each word is looked at a fixed number of times, and nothing is written.
 #![tactic(auto)]
 
-ghost use Rattle.std.specs.Prelude.{◌≡◌, ◌+◌, ◌*◌, ◌-◌, ◌<◌, ◌≤◌, length};
-ghost use Rattle.ring_laws.specs.Lists.{if◌then◌else◌};
+ghost use Rattle.std.specs.Prelude.{◌≡◌, ◌+◌, ◌*◌, ◌-◌, ◌<◌, ◌≤◌, length, if◌then◌else◌};
 ghost use Rattle.ring_laws.specs.Stores.{sucs, pres};
 ghost use Rattle.ring_laws.specs.Judge.{Space, Plan, WalkStep, Bounded, allowed, step, walk, closed, idle, busy, rings_fine};
 

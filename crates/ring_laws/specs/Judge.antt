@@ -1,7 +1,6 @@
 -- What the judge of rings computes, over a successor S and a predecessor P. The heads are n places from g, the links the places
 -- lo .. hi - 1. One count, of the links that have not two zeros, is spent along all rings: it ends at 0 exactly where no link is astray.
-use Rattle.std.specs.Prelude.{ℕ, zero, suc, ◌+◌, ◌*◌, ◌-◌, ◌<◌, ◌≤◌, ◌≡◌, Bool, true, false, ◌&&◌, List, [], ◌∷◌, eqb, ltb, length}
-use Rattle.ring_laws.specs.Lists.{if◌then◌else◌}
+use Rattle.std.specs.Prelude.{ℕ, zero, suc, ◌+◌, ◌*◌, ◌-◌, ◌<◌, ◌≤◌, ◌≡◌, Bool, true, false, ◌&&◌, List, [], ◌∷◌, eqb, ltb, length, if◌then◌else◌}
 
 -- may s stand on the ring of h?
 unfoldable pub allowed : ℕ → ℕ → ℕ → ℕ → Bool

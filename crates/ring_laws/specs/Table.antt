@@ -1,7 +1,7 @@
 -- The published statements on a table of 2 × m words: the successor of i stands at i, its predecessor at m + i; 0 is none.
-use Rattle.std.specs.Prelude.{ℕ, zero, suc, ◌+◌, ◌*◌, ◌<◌, ◌≤◌, ◌≡◌, refl, List, eqb, length, get_or, set}
+use Rattle.std.specs.Prelude.{ℕ, zero, suc, ◌+◌, ◌*◌, ◌<◌, ◌≤◌, ◌≡◌, refl, List, eqb, length, get_or, set, if◌then◌else◌}
 use Rattle.std.proofs.Common.{ap, arith, eq-eqb, ne_eqb}
-use Rattle.ring_laws.specs.Lists.{if◌then◌else◌, test}
+use Rattle.ring_laws.specs.Lists.{test}
 
 -- what the code needs to be safe: two halves of m words, and every word names a place
 pub record Sound (m : ℕ) (t : List ℕ) : Type 0 where

@@ -1,8 +1,7 @@
 -- Each arm of the match over operations: what its function leaves, and what that means for current, is what the record's call comes to.
-use Rattle.std.specs.Prelude.{ℕ, ◌+◌, ◌≤◌, ◌≡◌, ◌≢◌, true, false, List, ℤ, pos, eqb}
+use Rattle.std.specs.Prelude.{ℕ, ◌+◌, ◌≤◌, ◌≡◌, ◌≢◌, true, false, List, ℤ, pos, eqb, if◌then◌else◌}
 use Rattle.std.proofs.Math.Path.{refl, sym, ap}
 use Rattle.std.proofs.Common.{◌∙◌, arith, ne_eqb}
-use Rattle.ring_laws.specs.Lists.{if◌then◌else◌}
 use Rattle.model.specs.declared.Counts.{Counts}
 use Rattle.model.specs.Counts.{total, is_head}
 use Rattle.model.specs.declared.answer.Answer.{Answer}

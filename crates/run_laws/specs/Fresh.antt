@@ -1,8 +1,7 @@
 -- "a fresh run starts with the sheet's starts, the fresh model and zeros": its tables, and that they are the fresh machine's.
-use Rattle.std.specs.Prelude.{ℕ, zero, suc, ◌+◌, ◌*◌, ◌≤◌, ◌≡◌, refl, Bool, true, ◌&&◌, List, ◌∷◌, eqb, ℤ, pos, length, get_or, replicate}
+use Rattle.std.specs.Prelude.{ℕ, zero, suc, ◌+◌, ◌*◌, ◌≤◌, ◌≡◌, refl, Bool, true, ◌&&◌, List, ◌∷◌, eqb, ℤ, pos, length, get_or, replicate, if◌then◌else◌}
 use Rattle.std.proofs.Common.{ap, ◌∙◌, subst, arith}
 use Rattle.std.proofs.lemmas.List.{length-replicate}
-use Rattle.ring_laws.specs.Lists.{if◌then◌else◌}
 use Rattle.ring_laws.specs.Tabulate.{listed}
 use Rattle.model.specs.declared.Counts.{Counts}
 use Rattle.model.specs.declared.Refusal.TheVariants.{Size}

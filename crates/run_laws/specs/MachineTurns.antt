@@ -1,11 +1,11 @@
 -- What a turn does, whatever its call: the lists stay those of well-formed tables, the notices move as History says, time does not go
 -- back, positions stay in the sheet, and accumulators as required.
-use Rattle.std.specs.Prelude.{ℕ, ◌-◌, ◌≤◌, ◌≡◌, refl, Bool, true, false, ◌&&◌, List, eqb, length, get_or, set}
+use Rattle.std.specs.Prelude.{ℕ, ◌-◌, ◌≤◌, ◌≡◌, refl, Bool, true, false, ◌&&◌, List, eqb, length, get_or, set, if◌then◌else◌}
 use Rattle.std.proofs.Common.{ap, ◌∙◌, subst, arith, get_or-set_same, get_or-set_other, eqb-true}
 use Rattle.std.proofs.Math.ListN.{length-set}
 use Rattle.std.proofs.Math.Seq.{set_out}
 use Rattle.std.proofs.lemmas.Bool.{eqb-false}
-use Rattle.ring_laws.specs.Lists.{if◌then◌else◌, In, decide, below, test}
+use Rattle.ring_laws.specs.Lists.{In, decide, below, test}
 use Rattle.model.specs.declared.Counts.{Counts}
 use Rattle.model.specs.Counts.{Allowed}
 use Rattle.model_laws.specs.Tables.{Tables, Lists, Spells}

@@ -1,6 +1,5 @@
 -- The calls of a step on a run's tables: the published procedures on the model's, accum on the flat list of words.
-use Rattle.std.specs.Prelude.{ℕ, ◌+◌, ◌-◌, Bool, List, ltb, eqb, ℤ, get_or}
-use Rattle.ring_laws.specs.Lists.{if◌then◌else◌}
+use Rattle.std.specs.Prelude.{ℕ, ◌+◌, ◌-◌, Bool, List, ltb, eqb, ℤ, get_or, if◌then◌else◌}
 use Rattle.model.specs.declared.Counts.{Counts}
 use Rattle.model.specs.Counts.{is_head, is_process, linkage_at, total}
 use Rattle.model.specs.declared.answer.Answer.{Answer}

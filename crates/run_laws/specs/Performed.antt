@@ -1,7 +1,7 @@
 -- What the code of a step's call computes: the tables and words after it, and what it means for the process that makes it.
-use Rattle.std.specs.Prelude.{ℕ, ◌≡◌, Bool, true, false, ◌&&◌, List, eqb, ℤ}
+use Rattle.std.specs.Prelude.{ℕ, ◌≡◌, Bool, true, false, ◌&&◌, List, eqb, ℤ, if◌then◌else◌}
 use Rattle.std.proofs.Common.{sym, ap}
-use Rattle.ring_laws.specs.Lists.{clash, if◌then◌else◌}
+use Rattle.ring_laws.specs.Lists.{clash}
 use Rattle.model.specs.declared.Counts.{Counts}
 use Rattle.model.specs.declared.Refusal.{Refusal}
 use Rattle.model.specs.Counts.{is_head}

@@ -1,7 +1,6 @@
 -- A run on lent tables: the judge, the step, the turns, and the call. Each is what the code computes; Refine and Demand3 say what it
 -- means.
-use Rattle.std.specs.Prelude.{ℕ, zero, suc, ◌+◌, ◌*◌, ◌/◌, Bool, ◌&&◌, List, leb, eqb, ℤ, pos, length, get_or, set}
-use Rattle.ring_laws.specs.Lists.{if◌then◌else◌}
+use Rattle.std.specs.Prelude.{ℕ, zero, suc, ◌+◌, ◌*◌, ◌/◌, Bool, ◌&&◌, List, leb, eqb, ℤ, pos, length, get_or, set, if◌then◌else◌}
 use Rattle.model.specs.declared.Counts.{Counts}
 use Rattle.model.specs.declared.Refusal.{Refusal}
 use Rattle.model.specs.declared.Refusal.TheVariants.{Size}

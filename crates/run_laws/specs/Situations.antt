@@ -1,7 +1,6 @@
 -- The twelve named situations of document 01, by one computed check over a list of them: on the machine, and on tables by the
 -- published procedures, from the fresh model on.
-use Rattle.std.specs.Prelude.{ℕ, zero, suc, ◌+◌, ◌≡◌, refl, Bool, true, false, not, ◌&&◌, List, [], ◌∷◌, eqb, ℤ, pos, negsuc, get_or}
-use Rattle.ring_laws.specs.Lists.{if◌then◌else◌}
+use Rattle.std.specs.Prelude.{ℕ, zero, suc, ◌+◌, ◌≡◌, refl, Bool, true, false, not, ◌&&◌, List, [], ◌∷◌, eqb, ℤ, pos, negsuc, get_or, if◌then◌else◌}
 use Rattle.ring_laws.specs.Distinct.{joined}
 use Rattle.ring_laws.specs.Tabulate.{has}
 use Rattle.ring_laws.specs.Table.{unlinked, linked_behind, linked_before, self_linked}

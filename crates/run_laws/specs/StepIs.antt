@@ -1,8 +1,8 @@
 -- What the step's code leaves, from what its call came to.
-use Rattle.std.specs.Prelude.{ℕ, ◌≡◌, Bool, true, false, ◌&&◌, List, eqb, ℤ, set}
+use Rattle.std.specs.Prelude.{ℕ, ◌≡◌, Bool, true, false, ◌&&◌, List, eqb, ℤ, set, if◌then◌else◌}
 use Rattle.std.proofs.Math.Path.{refl, sym, ap}
 use Rattle.std.proofs.Common.{◌∙◌, eqb-true}
-use Rattle.ring_laws.specs.Lists.{test, clash, if◌then◌else◌}
+use Rattle.ring_laws.specs.Lists.{test, clash}
 use Rattle.model.specs.declared.Counts.{Counts}
 use Rattle.model.specs.declared.Refusal.{Refusal}
 use Rattle.model.specs.Counts.{linkage_at, both}

@@ -1,12 +1,12 @@
 -- The calls that a stretch of turns makes itself, and those that are made apart. It is a matter of speed alone: what a call leaves is
 -- `performed` for all of them.
-use Rattle.std.specs.Prelude.{ℕ, ◌≤◌, ◌≡◌, ◌≢◌, Bool, ◌&&◌, ◌||◌, List, [], ◌∷◌, leb, ℤ}
+use Rattle.std.specs.Prelude.{ℕ, ◌≤◌, ◌≡◌, ◌≢◌, Bool, ◌&&◌, ◌||◌, List, [], ◌∷◌, leb, ℤ, if◌then◌else◌}
 use Rattle.std.proofs.Math.Path.{refl, sym, ap}
 use Rattle.std.proofs.Common.{◌∙◌}
 use Rattle.std.proofs.Math.Bool.{true, false, not}
 use Rattle.std.proofs.Math.Dec.{eqb}
 use borrow.Author.Tests.{ne_eqb, eqb-true, leb-true, not-true}
-use Rattle.ring_laws.specs.Lists.{if◌then◌else◌, test, clash}
+use Rattle.ring_laws.specs.Lists.{test, clash}
 use Rattle.ring_laws.specs.Tabulate.{has}
 use Rattle.model.specs.declared.Counts.{Counts}
 use Rattle.model.specs.Counts.{both, is_process}

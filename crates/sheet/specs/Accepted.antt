@@ -1,6 +1,5 @@
 -- Which sheets are accepted; every other is refused with 8.
-use Rattle.std.specs.Prelude.{ℕ, ◌+◌, ◌*◌, ◌-◌, Bool, ◌&&◌, ◌||◌, List, leb, eqb, nat_abs, length}
-use Rattle.ring_laws.specs.Lists.{if◌then◌else◌}
+use Rattle.std.specs.Prelude.{ℕ, ◌+◌, ◌*◌, ◌-◌, Bool, ◌&&◌, ◌||◌, List, leb, eqb, nat_abs, length, if◌then◌else◌}
 use Rattle.model.specs.Counts.{in_limits, total, is_head}
 use Rattle.model.specs.declared.Counts.{Counts}
 use Rattle.model.specs.declared.Refusal.TheVariants.{Layout}

@@ -1,9 +1,8 @@
 -- Which fields an operation uses: the table of operations, a line of it at a time.
-use Rattle.std.specs.Prelude.{ℕ, ◌-◌, ◌≤◌, ◌<◌, ◌≡◌, Bool, true, false, ◌&&◌, List, [], ◌∷◌, leb, get_or}
+use Rattle.std.specs.Prelude.{ℕ, ◌-◌, ◌≤◌, ◌<◌, ◌≡◌, Bool, true, false, ◌&&◌, List, [], ◌∷◌, leb, get_or, if◌then◌else◌}
 use Rattle.std.proofs.Common.{ap, ◌∙◌, arith}
 use Rattle.std.proofs.Math.Bool.{and-true}
 use borrow.Author.Tests.{le-leb, lt-leb}
-use Rattle.ring_laws.specs.Lists.{if◌then◌else◌}
 use Rattle.ring_laws.specs.Tabulate.{listed, has, listed_at}
 use Rattle.sheet.specs.declared.operations.Holds.{Holds}
 use Rattle.sheet.specs.declared.operations.Holds.TheVariants.{Nothing, Operand, RecordNumber, AccumulatorNumber}

@@ -1,11 +1,11 @@
 -- What holds of an accepted sheet: its size, that its fields lie within it, and their ranges.
-use Rattle.std.specs.Prelude.{ℕ, ◌+◌, ◌*◌, ◌-◌, ◌≤◌, ◌≡◌, Bool, true, false, ◌&&◌, List, leb, eqb, length, get_or}
+use Rattle.std.specs.Prelude.{ℕ, ◌+◌, ◌*◌, ◌-◌, ◌≤◌, ◌≡◌, Bool, true, false, ◌&&◌, List, leb, eqb, length, get_or, if◌then◌else◌}
 use Rattle.std.proofs.Common.{sym, ◌∙◌, arith, leb-true, eqb-true}
 use Rattle.std.proofs.Math.Path.{ap}
 use Rattle.model.specs.Counts.{Allowed, in_limits, both, limits_allowed}
 use Rattle.model.specs.declared.Refusal.{Refusal}
 use Rattle.model.specs.declared.Refusal.TheVariants.{Layout}
-use Rattle.ring_laws.specs.Lists.{if◌then◌else◌, test}
+use Rattle.ring_laws.specs.Lists.{test}
 use Rattle.ring_laws.specs.Tabulate.{listed_at, length_listed}
 use Rattle.sheet.specs.AllTo.{all_at}
 use Rattle.sheet.specs.Sheet.{counts_of, records_of, start_offset, start_at, record_offset, record_at, sheet_of, header_bytes, record_bytes}

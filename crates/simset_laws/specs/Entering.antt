@@ -1,8 +1,8 @@
 -- What the code of a call that enters a set promises beside its answer: that the bounds of the sets' sizes hold after it. The other set
 -- calls leave them as they are.
-use Rattle.std.specs.Prelude.{ℕ, ◌+◌, ◌≤◌, ◌≡◌, refl, Bool, true, false, ◌&&◌, List}
+use Rattle.std.specs.Prelude.{ℕ, ◌+◌, ◌≤◌, ◌≡◌, refl, Bool, true, false, ◌&&◌, List, if◌then◌else◌}
 use Rattle.std.proofs.Common.{sym, ap, ◌∙◌, arith, le-leb}
-use Rattle.ring_laws.specs.Lists.{if◌then◌else◌, test, clash}
+use Rattle.ring_laws.specs.Lists.{test, clash}
 use Rattle.ring_laws.specs.Table.{Sound, Made, unlinked}
 use Rattle.model.specs.declared.Counts.{Counts}
 use Rattle.model.specs.declared.Refusal.{Refusal}

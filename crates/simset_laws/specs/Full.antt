@@ -1,6 +1,5 @@
 -- Request 2.5 on a table of links: is a set full for a link that would enter it? m is N + 1, and the heads are 1 .. H.
-use Rattle.std.specs.Prelude.{ℕ, ◌+◌, Bool, true, false, not, List, eqb, leb, ltb, get_or, set, replicate}
-use Rattle.ring_laws.specs.Lists.{if◌then◌else◌}
+use Rattle.std.specs.Prelude.{ℕ, ◌+◌, Bool, true, false, not, List, eqb, leb, ltb, get_or, set, replicate, if◌then◌else◌}
 use Rattle.model.specs.declared.Counts.{Counts}
 use Rattle.model.specs.Counts.{total, most_members}
 use Rattle.simset_laws.specs.Procedures.{cardinal_of}

@@ -1,6 +1,6 @@
 -- Request 2.5 on tables: how many members each set has after x was put beside y, and that the test before it says whether some set would
 -- have too many. Follow and precede put x by an f of their own.
-use Rattle.std.specs.Prelude.{ℕ, zero, suc, ◌+◌, ◌-◌, ◌<◌, ◌≤◌, ◌≡◌, refl, ◌≢◌, ◌⊎◌, false, not, List, [], ◌∷◌, eqb, ltb, get_or}
+use Rattle.std.specs.Prelude.{ℕ, zero, suc, ◌+◌, ◌-◌, ◌<◌, ◌≤◌, ◌≡◌, refl, ◌≢◌, ◌⊎◌, false, not, List, [], ◌∷◌, eqb, ltb, get_or, if◌then◌else◌}
 use Rattle.std.proofs.Math.Path.{sym}
 use Rattle.std.proofs.Common.{ap, ◌∙◌, subst, inl, inr, arith}
 use Rattle.std.proofs.Math.Logic.{⊎_elim}
@@ -9,7 +9,7 @@ use Rattle.std.proofs.Math.Dec.{leb}
 use Rattle.std.proofs.Math.ListN.{length, get_or-map, get_or-eq_default}
 use Rattle.std.proofs.lemmas.List.{length-map}
 use borrow.Author.Tests.{eq-eqb, ne_eqb, le-leb, leb-true, leb-false, le-ltb, lt-ltb, ltb-false}
-use Rattle.ring_laws.specs.Lists.{if◌then◌else◌, In, without, decide, below, inside, test, in_without, without_in, without_none}
+use Rattle.ring_laws.specs.Lists.{In, without, decide, below, inside, test, in_without, without_in, without_none}
 use Rattle.ring_laws.specs.Distinct.{fits, without_le, without_lt}
 use Rattle.ring_laws.specs.Tabulate.{listed, length_listed}
 use Rattle.ring_laws.specs.Rings.{Head, Link, kind, apart}

@@ -1,11 +1,11 @@
 -- Room that is known with no count, by the bound of the set's size: what the quick test of a stretch of turns means.
-use Rattle.std.specs.Prelude.{ℕ, ◌+◌, ◌<◌, ◌≤◌, ◌≡◌, Bool, ◌&&◌, List, get_or, set}
+use Rattle.std.specs.Prelude.{ℕ, ◌+◌, ◌<◌, ◌≤◌, ◌≡◌, Bool, ◌&&◌, List, get_or, set, if◌then◌else◌}
 use Rattle.std.proofs.Math.Path.{refl, ap}
 use Rattle.std.proofs.Common.{sym, ◌∙◌, arith}
 use Rattle.std.proofs.Math.Bool.{true, false}
 use Rattle.std.proofs.Math.Dec.{leb, ltb}
 use borrow.Author.Tests.{ne_eqb, le-leb, lt-leb, leb-true, leb-false, le-ltb, lt-ltb, ltb-true}
-use Rattle.ring_laws.specs.Lists.{if◌then◌else◌, test, clash}
+use Rattle.ring_laws.specs.Lists.{test, clash}
 use Rattle.model.specs.declared.Counts.{Counts}
 use Rattle.model.specs.Counts.{total, most_members, is_head, is_link}
 use Rattle.simset_laws.specs.Procedures.{preceded, cardinal_of}

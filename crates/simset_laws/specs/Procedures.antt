@@ -1,7 +1,6 @@
 -- Chapter 14's procedures of SIMSET, statement by statement, on the table of links; the set calls' promises cite them, so that demand 2 is
 -- read here and, for what they do to the lists, in Meaning.antt. m is N + 1, and links are the places above H. Out is rings' `unlinked`.
-use Rattle.std.specs.Prelude.{ℕ, zero, suc, ◌+◌, Bool, List, eqb, leb, get_or}
-use Rattle.ring_laws.specs.Lists.{if◌then◌else◌}
+use Rattle.std.specs.Prelude.{ℕ, zero, suc, ◌+◌, Bool, List, eqb, leb, get_or, if◌then◌else◌}
 use Rattle.ring_laws.specs.Table.{unlinked, linked_behind, linked_before, counted}
 
 -- procedure follow(X): "if X ≠ none then begin if X.SUC ≠ none then begin PRED :- X; SUC :- X.SUC; SUC.PRED :- X.SUC :- this linkage"

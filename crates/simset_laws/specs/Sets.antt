@@ -1,6 +1,6 @@
 -- The set operations on plain lists, one list of links for each head: what the set calls mean.
-use Rattle.std.specs.Prelude.{ℕ, suc, ◌-◌, Bool, true, false, ◌||◌, List, [], ◌∷◌, ◌++◌, map, eqb, ltb, length, set}
-use Rattle.ring_laws.specs.Lists.{if◌then◌else◌, without, behind, ahead}
+use Rattle.std.specs.Prelude.{ℕ, suc, ◌-◌, Bool, true, false, ◌||◌, List, [], ◌∷◌, ◌++◌, map, eqb, ltb, length, set, if◌then◌else◌}
+use Rattle.ring_laws.specs.Lists.{without, behind, ahead}
 use Rattle.ring_laws.specs.Tabulate.{has}
 use Rattle.model.specs.Counts.{most_members}
 

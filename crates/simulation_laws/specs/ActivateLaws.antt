@@ -1,6 +1,6 @@
 -- ACTIVATE, as published, leaves what the plain machine's activate and reactivate leave, with the same refusals.
 use Prim.Native.Nat.{ℕ, max, ◌≤◌, ◌<◌}
-use Rattle.std.specs.Prelude.{◌≡◌, refl, ◌≢◌, ◌⊎◌, Bool, not, ◌&&◌, ◌||◌, List, [], ◌∷◌, ℤ, negsuc, ◌+ℤ◌, length}
+use Rattle.std.specs.Prelude.{◌≡◌, refl, ◌≢◌, ◌⊎◌, Bool, not, ◌&&◌, ◌||◌, List, [], ◌∷◌, ℤ, negsuc, ◌+ℤ◌, length, if◌then◌else◌}
 use Rattle.std.proofs.Math.Path.{sym, subst}
 use Rattle.std.proofs.Common.{ap, ◌∙◌, ⊎_elim, not-suc-le-zero}
 use Rattle.std.proofs.Math.Logic.{inr}
@@ -9,7 +9,7 @@ use native.Mathlib.Omega.{arith}
 use Rattle.std.proofs.Math.Dec.{eqb, leb}
 use Rattle.std.proofs.Math.IntN.{pos, +ℤ_comm}
 use borrow.Author.Tests.{eq-eqb, ne_eqb, eqb-true, le-leb, lt-leb, lt-ltb, le-ltb}
-use Rattle.ring_laws.specs.Lists.{clash, if◌then◌else◌, In, decide, below, test}
+use Rattle.ring_laws.specs.Lists.{clash, In, decide, below, test}
 use Rattle.ring_laws.specs.Tabulate.{has}
 use Rattle.model.specs.declared.Counts.{Counts}
 use Rattle.model.specs.Counts.{limit}

@@ -1,11 +1,11 @@
 -- Passivate, cancel, finish and wait on tables that spell lists do what the plain calls do, with the same refusals.
-use Rattle.std.specs.Prelude.{ℕ, suc, ◌+◌, ◌-◌, ◌<◌, ◌≤◌, ◌≡◌, refl, ◌≢◌, ◌⊎◌, true, false, not, ltb, eqb, set}
+use Rattle.std.specs.Prelude.{ℕ, suc, ◌+◌, ◌-◌, ◌<◌, ◌≤◌, ◌≡◌, refl, ◌≢◌, ◌⊎◌, true, false, not, ltb, eqb, set, if◌then◌else◌}
 use Rattle.std.proofs.Math.Path.{sym, subst}
 use Rattle.std.proofs.Common.{ap, ◌∙◌, inl, inr, ⊎_elim, arith, get_or-take}
 use mathlib.Core.List.{List, [], ◌∷◌}
 use Rattle.std.proofs.Math.ListN.{length}
 use borrow.Author.Tests.{eq-eqb, ne_eqb, leb-true, ltb-true}
-use Rattle.ring_laws.specs.Lists.{clash, if◌then◌else◌, In, decide, test}
+use Rattle.ring_laws.specs.Lists.{clash, In, decide, test}
 use Rattle.ring_laws.specs.Tabulate.{listed, has, bit}
 use Rattle.model.specs.declared.Counts.{Counts}
 use Rattle.model.specs.declared.Refusal.TheVariants.{NoNotice}

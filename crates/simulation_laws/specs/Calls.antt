@@ -1,6 +1,5 @@
 -- The sequencing calls on judged tables: refusal 3 by the operands, of wait 10, else the published procedure with its refusals 4, 5 and 6.
-use Rattle.std.specs.Prelude.{ℕ, ◌+◌, ◌-◌, Bool, List, eqb, leb, ℤ, get_or}
-use Rattle.ring_laws.specs.Lists.{if◌then◌else◌}
+use Rattle.std.specs.Prelude.{ℕ, ◌+◌, ◌-◌, Bool, List, eqb, leb, ℤ, get_or, if◌then◌else◌}
 use Rattle.model.specs.declared.Counts.{Counts}
 use Rattle.model.specs.declared.Refusal.TheVariants.{Operand, NoNotice, Idle, Full}
 use Rattle.model.specs.Counts.{total, is_head, is_process, place_of, linkage_at}

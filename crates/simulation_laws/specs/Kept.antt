@@ -1,10 +1,10 @@
 -- A refused sequencing call changes no word, whatever the tables.
 use Prim.Native.Nat.{ℕ, ◌+◌}
-use Rattle.std.specs.Prelude.{◌≡◌, refl, Bool, ◌&&◌, List, eqb, ℤ}
+use Rattle.std.specs.Prelude.{◌≡◌, refl, Bool, ◌&&◌, List, eqb, ℤ, if◌then◌else◌}
 use Rattle.std.proofs.Common.{ap}
 use Rattle.std.proofs.Math.Bool.{true, false}
 use Rattle.std.proofs.Math.Dec.{leb}
-use Rattle.ring_laws.specs.Lists.{if◌then◌else◌, test, clash}
+use Rattle.ring_laws.specs.Lists.{test, clash}
 use Rattle.model.specs.declared.Counts.{Counts}
 use Rattle.model.specs.declared.Refusal.{Refusal}
 use Rattle.model.specs.declared.Refusal.TheVariants.{Operand, NoNotice, TimeLimit}

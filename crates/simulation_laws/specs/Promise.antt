@@ -1,10 +1,10 @@
 -- What the functions promise.
-use Rattle.std.specs.Prelude.{ℕ, suc, ◌≤◌, ◌<◌, ◌+◌, ◌-◌, ◌≡◌, Bool, ◌&&◌, List, leb, length, get_or, set}
+use Rattle.std.specs.Prelude.{ℕ, suc, ◌≤◌, ◌<◌, ◌+◌, ◌-◌, ◌≡◌, Bool, ◌&&◌, List, leb, length, get_or, set, if◌then◌else◌}
 use Rattle.std.proofs.Common.{sym, subst, ◌∙◌, arith, le-leb}
 use Rattle.std.proofs.Math.ListN.{get_or-eq_default}
 use Rattle.std.proofs.Math.Seq.{set_out}
 use Rattle.std.proofs.lemmas.Bool.{lt-leb}
-use Rattle.ring_laws.specs.Lists.{below, if◌then◌else◌}
+use Rattle.ring_laws.specs.Lists.{below}
 use Rattle.model.specs.declared.Counts.{Counts}
 use Rattle.model.specs.Counts.{limit, Allowed}
 use Rattle.model_laws.specs.Tables.{Tables}

@@ -1,9 +1,8 @@
 -- Chapter 14's sequencing procedures, statement by statement, on the sequencing set as a list of notices. Each definition stands beside
 -- the lines of document 004 that it writes down. ERROR is refusal 4, and `up_to` document 01's limit on times. That the engine's calls
 -- leave what these leave is proved in PublishedCalls.antt. ("resume" hands over control: the first notice's process steps next.)
-use Rattle.std.specs.Prelude.{ℕ, ◌+◌, Bool, true, false, not, ◌&&◌, ◌||◌, List, [], ◌∷◌, eqb, leb, ltb, ℤ, pos, ◌+ℤ◌}
+use Rattle.std.specs.Prelude.{ℕ, ◌+◌, Bool, true, false, not, ◌&&◌, ◌||◌, List, [], ◌∷◌, eqb, leb, ltb, ℤ, pos, ◌+ℤ◌, if◌then◌else◌}
 use Rattle.std.specs.Int.Signed.{lt_z}
-use Rattle.ring_laws.specs.Lists.{if◌then◌else◌}
 use Rattle.ring_laws.specs.Tabulate.{has}
 use Rattle.model.specs.declared.Refusal.TheVariants.{NoNotice}
 use Rattle.axis_laws.specs.Notices.{Notice, due_of}

@@ -1,10 +1,10 @@
 -- What the queries of SIMULATION tell, for every well-formed model: what the list of notices and the terminated processes say.
-use Rattle.std.specs.Prelude.{ℕ, ◌+◌, ◌-◌, ◌<◌, ◌≡◌, refl, ◌≢◌, Bool, true, false, not, List, [], ◌∷◌, leb, ltb}
+use Rattle.std.specs.Prelude.{ℕ, ◌+◌, ◌-◌, ◌<◌, ◌≡◌, refl, ◌≢◌, Bool, true, false, not, List, [], ◌∷◌, leb, ltb, if◌then◌else◌}
 use Rattle.std.proofs.Common.{sym, ◌∙◌, subst, inl, inr, arith, eq-eqb, ne_eqb, leb-true, ltb-true}
 use Rattle.std.proofs.Math.Path.{ap}
 use Rattle.std.proofs.Math.Dec.{eqb}
 use Rattle.std.proofs.Math.Seq.{get_or-take}
-use Rattle.ring_laws.specs.Lists.{if◌then◌else◌, In, decide, test}
+use Rattle.ring_laws.specs.Lists.{In, decide, test}
 use Rattle.ring_laws.specs.Tabulate.{has, bit}
 use Rattle.ring_laws.specs.Chain.{Chain}
 use Rattle.ring_laws.specs.Stores.{sucs, pres}

@@ -1,12 +1,12 @@
 -- ACTIVATE on tables that spell a list of notices does what activate and reactivate do to it, with the same refusals.
-use Rattle.std.specs.Prelude.{ℕ, suc, ◌+◌, ◌-◌, ◌<◌, ◌≤◌, max, ◌≡◌, Bool, ◌&&◌, ◌||◌, leb, ℤ, get_or}
+use Rattle.std.specs.Prelude.{ℕ, suc, ◌+◌, ◌-◌, ◌<◌, ◌≤◌, max, ◌≡◌, Bool, ◌&&◌, ◌||◌, leb, ℤ, get_or, if◌then◌else◌}
 use Rattle.std.proofs.Math.Path.{refl, sym, ap}
 use Rattle.std.proofs.Common.{◌∙◌, subst, arith}
 use Rattle.std.proofs.Math.Bool.{true, false, not}
 use mathlib.Core.List.{List, [], ◌∷◌}
 use Rattle.std.proofs.Math.Dec.{eqb}
 use borrow.Author.Tests.{eq-eqb, ne_eqb, eqb-true, eqb-false, le-leb, leb-true}
-use Rattle.ring_laws.specs.Lists.{if◌then◌else◌, In, decide, test}
+use Rattle.ring_laws.specs.Lists.{In, decide, test}
 use Rattle.ring_laws.specs.Tabulate.{has, bit, listed_at}
 use Rattle.model.specs.declared.Counts.{Counts}
 use Rattle.model.specs.Counts.{limit, is_process}

@@ -1,5 +1,5 @@
 -- The calls on tables that spell a list of notices do what the plain calls do to it, "refusals among them".
-use Rattle.std.specs.Prelude.{ℕ, suc, ◌+◌, ◌-◌, ◌<◌, ◌≤◌, ◌≢◌, ◌⊎◌, Bool, true, false, not, ◌&&◌, ◌||◌, leb, ℤ, get_or, set}
+use Rattle.std.specs.Prelude.{ℕ, suc, ◌+◌, ◌-◌, ◌<◌, ◌≤◌, ◌≢◌, ◌⊎◌, Bool, true, false, not, ◌&&◌, ◌||◌, leb, ℤ, get_or, set, if◌then◌else◌}
 use Rattle.std.proofs.Math.Path.{◌≡◌, refl, sym, subst}
 use Rattle.std.proofs.Common.{ap, ◌∙◌, inl, inr, ⊎_elim, length-set, get_or-set_same, get_or-set_other}
 use mathlib.Core.List.{List, [], ◌∷◌, ◌++◌}
@@ -7,7 +7,7 @@ use native.Mathlib.Omega.{arith}
 use Rattle.std.proofs.Math.Dec.{ltb, eqb}
 use Rattle.std.proofs.Math.ListN.{length}
 use borrow.Author.Tests.{eq-eqb, ne_eqb, eqb-true, lt-leb, lt-ltb, le-ltb, le-leb, leb-true}
-use Rattle.ring_laws.specs.Lists.{if◌then◌else◌, In, decide, below, test}
+use Rattle.ring_laws.specs.Lists.{In, decide, below, test}
 use Rattle.ring_laws.specs.Distinct.{Dist}
 use Rattle.ring_laws.specs.Tabulate.{listed, has, bit}
 use Rattle.ring_laws.specs.Stores.{sucs, pres, suc_at}
