@@ -32,7 +32,7 @@ module _ (S P : ℕ → ℕ) (H b : ℕ) (hb : b ≤ H) where
   chain_next a (z ∷ l) x c d f (inl e) =
       rw (eq-eqb a x (sym e)) (ap (λ (v : ℕ). link_or H v) (ap S e ∙ c.0.next) ∙ or_link H z (f z (inl refl)))
   chain_next a (z ∷ l) x c d f (inr k) =
-      rw (ne_eqb a x (λ e. d.0 (rw e k))) (chain_next z l x c.1 d.1 (λ y i. f y (inr i)) k)
+      rw (ne_eqb a x (λ e. d.0 (subst (λ (v : ℕ). In v (z ∷ l)) (sym e) k))) (chain_next z l x c.1 d.1 (λ y i. f y (inr i)) k)
 
 -- the place before x, from the start of a chain on
 chain_prev : (S P : ℕ → ℕ) (a : ℕ) (l : List ℕ) (b x : ℕ) → Chain S P a l b → In x l ⊎ (x ≡ b) → prev_in x (a ∷ (l ++ (b ∷ []))) ≡ P x

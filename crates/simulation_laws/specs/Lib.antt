@@ -29,3 +29,6 @@ pub mod Ties
 pub mod Forward
 pub mod ToldWorked
 pub mod LimitWorked
+pub mod TimelineSteps
+pub mod TimelineActivate
+pub mod TimelineAgrees

@@ -53,7 +53,8 @@ module _ (l : Lists) (n : Notice) (ns : List Notice) (e : l.notices ≡ n ∷ ns
   hold_is T =
       rw (added_is (time l) T)
       (ap (λ (k : List Notice). up_to (time l + above T) (done (with_notices l k)))
-      (rw e (held_first_lem (record { who = n.who; due = n.due + above T }) ns o.1)))
+      (held_first_lem (record { who = current l; due = time l + above T }) (rest l.notices)
+      (subst (λ (ms : List Notice). InOrder (rest ms)) (sym e) o.1)))
 
   -- current's notice taken out is all but the first
   out_is : dropped (current l) l.notices ≡ rest l.notices

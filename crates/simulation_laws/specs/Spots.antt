@@ -17,8 +17,7 @@ use Rattle.axis_laws.specs.BesideLaws.{before_ins, after_ins}
 use Rattle.axis_laws.specs.Reading.{who_place, length_places}
 use Rattle.model_laws.specs.Now.{half}
 use Rattle.simulation_laws.specs.Procedures.{Sqs, prev_on, found, put_on, place_for}
-use Rattle.axis_laws.specs.Seek.{seek_from}
-use Rattle.axis_laws.specs.Seek.{seek_finds}
+use Rattle.axis_laws.specs.Seek.{seek_from, found_on, seek_finds}
 use Rattle.axis_laws.specs.ByDue.{by_due, by_ins, spot_in, spot_on, behind_spot, by_behind, by_front}
 use Rattle.simulation_laws.specs.Places.{SpellsTime, head, chain, member, off_head, dist_all, is_process_lem, a_link, timed}
 use Rattle.axis_laws.specs.Notices.{Process}
@@ -48,11 +47,11 @@ module _ (c : Counts) (ns : List Notice) (a : Sqs) (sp : SpellsTime c ns a) wher
   -- the place that a walk must find
   pub spot_at : (n : Notice) (w q : ℕ) → q ≡ spot_in c w (half c - 1) ns → Spot c ns n q (by_due w n ns)
   spot_at n w q e =
-      record {
-        on = rw e (spot_on c w (half c - 1) ns);
-        there = rw e (behind_spot c w n (half c - 1) ns (dist_all c ns a sp));
+      subst (λ (v : ℕ). Spot c ns n v (by_due w n ns)) (sym e) (record {
+        on = spot_on c w (half c - 1) ns;
+        there = behind_spot c w n (half c - 1) ns (dist_all c ns a sp);
         puts = by_ins w n ns;
-      }
+      })
 
   pub few : length ns ≤ half c
   few = rw (length_places c ns) at (spells_few (half c) (axis_head (half c)) (λ h. places c ns) a.axis sp.axis (half c - 1)
@@ -96,8 +95,10 @@ module _ (c : Counts) (ns : List Notice) (a : Sqs) (sp : SpellsTime c ns a) wher
       go b (k ∷ ks) ne d f h =
           decide k.who y
           (λ e.
-          rw (ne_eqb b (y - c.heads) (λ q. ne (sym q)), eq-eqb k.who y e, ← e)
-          (ap (λ (r : List ℕ). (k.who - c.heads) ∷ r) (behind_head (k.who - c.heads) (n.who - c.heads) (places c ks))))
+          rw (ne_eqb b (y - c.heads) (λ q. ne (sym q)), eq-eqb k.who y e)
+          (ap (λ (r : List ℕ). (k.who - c.heads) ∷ r)
+          (ap (λ (v : ℕ). behind (v - c.heads) (n.who - c.heads) (k.who - c.heads) (places c ks)) (sym e)
+          ∙ behind_head (k.who - c.heads) (n.who - c.heads) (places c ks))))
           (λ g.
           rw (ne_eqb b (y - c.heads) (λ q. ne (sym q)), ne_eqb k.who y g)
           (ap (λ (r : List ℕ). (k.who - c.heads) ∷ r)

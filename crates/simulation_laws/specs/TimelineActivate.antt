@@ -14,16 +14,19 @@ use Rattle.axis_laws.specs.Notices.{Notice, whos, due_of}
 use Rattle.model_laws.specs.Tables.{Lists}
 use Rattle.axis_laws.specs.Reading.{due_none}
 use Rattle.simset_laws.specs.Calls.{or_none}
-use Rattle.simulation_laws.specs.Choice.{clash, and_left, and_right}
+use Rattle.simulation_laws.specs.Choice.{and_left, and_right}
+use Rattle.ring_laws.specs.Lists.{clash}
 use Rattle.axis_laws.specs.NoticeOps.{dropped, has_notice}
 use Rattle.axis_laws.specs.NoticeLaws.{Ins, ins_new, drop_in, drop_gone, drop_old, drop_sorted, drop_due}
 use Rattle.axis_laws.specs.PutLaws.{last_ins, front_ins}
 use Rattle.axis_laws.specs.BesideLaws.{before_ins, after_ins, before_none, after_none}
-use Rattle.simulation_laws.specs.Kept.{Kept, kept_ins, dropped_within, dropped_idle}
+use Rattle.simulation_laws.specs.NoticesKept.{NoticesKept, kept_ins, dropped_within, dropped_idle}
 use Rattle.simulation_laws.specs.PlacedLaws.{placed_sorted, due_beside, not_ended, others_y}
 use Rattle.axis_laws.specs.Notices.{Process}
 use Rattle.simulation_laws.specs.Procedures.{vain, due_at}
-use Rattle.simulation_laws.specs.Plain.{done, time, with_notices, above, leaving, due_for, placed, no_effect, timed_need, timed}
+use Rattle.simulation_laws.specs.Plain.{with_notices, above, leaving, due_for, placed, no_effect, timed_need, timed}
+use Rattle.model_laws.specs.Result.{done}
+use Rattle.model_laws.specs.Now.{time}
 use Rattle.simulation_laws.specs.AgreeEnds.{Party, party, has_in, has_none}
 use Rattle.simulation_laws.specs.AgreeTimed.{delay_is}
 use Rattle.axis_laws.specs.Groups.{spelled_out, members_are}
@@ -74,7 +77,7 @@ module _ (c : Counts) (M : Lists) (a : Timeline) (marks : List ℕ) (sp : Spells
   spt : SpellsNotices c M.notices a
   spt = sp.notices
 
-  kept : Kept M.terminated M.notices
+  kept : NoticesKept M.terminated M.notices
   kept = sp.kept
 
   time_here : time_of m a ≡ time M
@@ -153,7 +156,7 @@ module _ (c : Counts) (M : Lists) (a : Timeline) (marks : List ℕ) (sp : Spells
       (subst (λ (l : List Notice). Agrees c a marks (leaving M (dropped x l)) (cancelled m (x - c.heads) a)) (sym e) (drop_agrees c M a marks sp n ns e x (Party.proc p))))
       (λ q.
       let on : 5 ≤ k → In y (whos (dropped x M.notices)) =
-      λ l. stands l (test (has_notice y M.notices) (λ h. h) (λ h. clash (rw (le-leb 5 k l, idle_has c M.notices a spt y (g l), h) at q))) in
+      λ l. stands l (test (has_notice y M.notices) (λ h. h) (λ h. clash (sym (rw (le-leb 5 k l, idle_has c M.notices a spt y (g l), h) at q)))) in
       let due : 5 ≤ k → u ≡ due_of y (dropped x M.notices) =
       λ h. ud h ∙ sym (drop_due x M.notices y (drop_gone x M.notices y (on h))) in
       let ins = placed_ins k y (record { who = x; due = u }) (dropped x M.notices) on in
@@ -169,7 +172,7 @@ module _ (c : Counts) (M : Lists) (a : Timeline) (marks : List ℕ) (sp : Spells
       not_true' false q = refl
 
       stays : (5 ≤ k → In y (whos (dropped x M.notices))) → (5 ≤ k → u ≡ due_of y (dropped x M.notices))
-          → Kept M.terminated (placed k y (record { who = x; due = u }) (dropped x M.notices))
+          → NoticesKept M.terminated (placed k y (record { who = x; due = u }) (dropped x M.notices))
       stays on due =
           kept_ins M.terminated (record { who = x; due = u }) (dropped x M.notices) (placed k y (record { who = x; due = u }) (dropped x M.notices))
           (placed_ins k y (record { who = x; due = u }) (dropped x M.notices) on)
@@ -184,7 +187,7 @@ module _ (c : Counts) (M : Lists) (a : Timeline) (marks : List ℕ) (sp : Spells
 
   its_process : (again : Bool) (k x y : ℕ) → Party c x → no_effect again k x y M ≡ false → Process c x
   unfolding no_effect
-  its_process again k x y (Party.none q) f = clash (rw (eq-eqb x 0 q) at f)
+  its_process again k x y (Party.none q) f = clash (sym (rw (eq-eqb x 0 q) at f))
   its_process again k x y (Party.proc p) f = p
 
   pub timed_agrees : (again : Bool) (k x y : ℕ) (z : ℤ) → timed_need c k x y ≡ true
@@ -204,4 +207,4 @@ module _ (c : Counts) (M : Lists) (a : Timeline) (marks : List ℕ) (sp : Spells
     where
       or_need : (b d : Bool) → b ≡ true → (not b || d) ≡ true → d ≡ true
       or_need true d q r = r
-      or_need false d q r = clash (sym q)
+      or_need false d q r = clash q

@@ -21,10 +21,12 @@ use Rattle.axis_laws.specs.Reading.{dist_whos}
 use Rattle.axis_laws.specs.NoticeOps.{behind_all, dropped, has_notice, rest}
 use Rattle.axis_laws.specs.NoticeLaws.{Ins, ins_in, rest_drop, drop_none, drop_old}
 use Rattle.axis_laws.specs.PutLaws.{last_ins, last_sorted}
-use Rattle.simulation_laws.specs.Kept.{Kept, some_in, kept_ins, kept_drop, kept_rest}
+use Rattle.simulation_laws.specs.NoticesKept.{NoticesKept, some_in, kept_ins, kept_drop, kept_rest}
 use Rattle.axis_laws.specs.Notices.{Process}
 use Rattle.simulation_laws.specs.AgreeEnds.{Party, party, has_in, has_none}
-use Rattle.simulation_laws.specs.Plain.{Result, refused, done, with_notices, above, leaving, hold, passivate, cancel, time}
+use Rattle.simulation_laws.specs.Plain.{with_notices, above, leaving, hold, passivate, cancel}
+use Rattle.model_laws.specs.Result.{Result, refused, done}
+use Rattle.model_laws.specs.Now.{time}
 use Rattle.simset_laws.specs.Calls.{or_none}
 use Rattle.model.specs.Counts.{is_process}
 use Rattle.axis_laws.specs.Groups.{Group, notice, group, together, spelled_out, members, leaders, Above, Rising, members_are}
@@ -44,7 +46,7 @@ use Rattle.simulation_laws.specs.TimelineSteps.{Outcome, made, turned_down, sett
 -- tables and lists of a model, as far as the sequencing calls go
 pub record SpellsModel (c : Counts) (M : Lists) (a : Timeline) (marks : List ℕ) : Type 0 where
   pub notices : SpellsNotices c M.notices a
-  pub kept : Kept M.terminated M.notices
+  pub kept : NoticesKept M.terminated M.notices
   pub marks_are : marks ≡ 0 ∷ listed (λ p. bit (has (c.heads + p) M.terminated)) 1 c.processes
 
 -- refused: the number, and the tables as they were; done: the tables spell the machine's next
@@ -273,17 +275,17 @@ module _ (c : Counts) (n : Notice) (ns : List Notice) (a : Timeline) (u : ℕ) (
 -- ---- the calls
 
 module _ (c : Counts) (M : Lists) (a : Timeline) (marks : List ℕ) (sp : SpellsModel c M a marks) where
-  pub respell : (l : List Notice) (b : Timeline) → Kept M.terminated l → SpellsNotices c l b → SpellsModel c (with_notices M l) b marks
+  pub respell : (l : List Notice) (b : Timeline) → NoticesKept M.terminated l → SpellsNotices c l b → SpellsModel c (with_notices M l) b marks
   respell l b k s = record { notices = s; kept = k; marks_are = sp.marks_are }
 
 module _ (c : Counts) (M : Lists) (a : Timeline) (marks : List ℕ) (sp : SpellsModel c M a marks) (n : Notice) (ns : List Notice) (e : M.notices ≡ n ∷ ns) where
   pub st : SpellsNotices c (n ∷ ns) a
   st = rw e at sp.notices
 
-  pub kt : Kept M.terminated (n ∷ ns)
+  pub kt : NoticesKept M.terminated (n ∷ ns)
   kt = rw e at sp.kept
 
-  held_kept : (u : ℕ) → u ≤ limit → Kept M.terminated (behind_all (record { who = n.who; due = u }) ns)
+  held_kept : (u : ℕ) → u ≤ limit → NoticesKept M.terminated (behind_all (record { who = n.who; due = u }) ns)
   held_kept u l =
       let f : Notice = record { who = n.who; due = u } in
       kept_ins M.terminated f ns (behind_all f ns) (last_ins f ns) (last_sorted f ns kt.in_order.1) l kt.within.1
@@ -301,7 +303,7 @@ module _ (c : Counts) (M : Lists) (a : Timeline) (marks : List ℕ) (sp : Spells
   unfolding passivate passivated
   passivate_agrees = subst (λ (l : List Notice). Agrees c a marks (leaving M (rest l)) (passivated (half c) a)) (sym e) (go ns kt st)
     where
-      go : (ns : List Notice) → Kept M.terminated (n ∷ ns) → SpellsNotices c (n ∷ ns) a
+      go : (ns : List Notice) → NoticesKept M.terminated (n ∷ ns) → SpellsNotices c (n ∷ ns) a
           → Agrees c a marks (leaving M ns) (if lone (half c) a then turned_down NoNotice a else made (drop_on (half c) (first_of (half c) a) a))
       go [] w s = rw (lone_one c n a s) (refl, refl)
       go (k ∷ ks) w s =
@@ -322,7 +324,7 @@ module _ (c : Counts) (M : Lists) (a : Timeline) (marks : List ℕ) (sp : Spells
       rw (idle_has c (n ∷ ns) a st x p, h, drop_none x (n ∷ ns) (has_none x (n ∷ ns) h))
       (refl, respell c M a marks sp (n ∷ ns) a kt st))
     where
-      some : (ns : List Notice) → Kept M.terminated (n ∷ ns) → SpellsNotices c (n ∷ ns) a → In x (whos (n ∷ ns))
+      some : (ns : List Notice) → NoticesKept M.terminated (n ∷ ns) → SpellsNotices c (n ∷ ns) a → In x (whos (n ∷ ns))
           → Agrees c a marks (leaving M (dropped x (n ∷ ns))) (if lone (half c) a then turned_down NoNotice a else made (drop_on (half c) (x - c.heads) a))
       some [] w s (inl q) = rw (lone_one c n a s, eq-eqb n.who x (sym q)) (refl, refl)
       some [] w s (inr i) = absurd i

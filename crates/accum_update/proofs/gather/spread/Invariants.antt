@@ -1,0 +1,11 @@
+use mathlib.Core.Path.{sym}
+use Prim.Native.Nat.{◌-◌}
+use Rattle.accum_laws.specs.Gather.{Copied, copied_start, copied_put, copied_out}
+use native.Mathlib.Omega.{arith}
+use Rattle.accum_update.proofs.gather.spread.Given as goal
+
+abbrev pub invariant-loop-i : goal.invariant-loop-i
+invariant-loop-i l = Copied l.n l.i l.list l.words
+
+abbrev pub decreases-loop-i : goal.decreases-loop-i
+decreases-loop-i l = l.n - l.i

@@ -1,0 +1,6 @@
+use borrow.Author.Rules.{rules}
+use native.Mathlib.Omega.{arith}
+use Rattle.calls_served.proofs.head.sizes_at.Goals as goal
+
+pub returns : goal.returns
+returns c = cc

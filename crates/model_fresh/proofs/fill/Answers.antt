@@ -1,0 +1,6 @@
+use Rattle.model_fresh.proofs.Filling.{links_are, filled}
+use borrow.Author.Rules.{rules}
+use Rattle.model_fresh.proofs.fill.Goals as goal
+
+pub returns : goal.returns
+returns c = filled _ _ c.requires _ (links_are c.args.c _ c.args.links.now _ _ c.total-n.ensures c.requires.lengths.links_is c.clear_words.ensures c.start_heads.ensures) c.start_axis.ensures c.clear_times.ensures c.clear_bytes.ensures

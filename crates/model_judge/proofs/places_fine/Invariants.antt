@@ -1,0 +1,9 @@
+use Rattle.model_judge.proofs.AxisCode.{Places, places_start, places_out, places_late, places_marked, places_turn}
+use Rattle.std.proofs.Common.{ap, not}
+use Rattle.model_judge.proofs.places_fine.Given as goal
+
+abbrev pub invariant-loop-i : goal.invariant-loop-i
+invariant-loop-i l = Places l.p l.axis l.times l.marks l.i
+
+abbrev pub decreases-loop-i : goal.decreases-loop-i
+decreases-loop-i l = l.i

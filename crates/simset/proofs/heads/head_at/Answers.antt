@@ -1,0 +1,20 @@
+use borrow.Author.Rules.{rules}
+use native.Mathlib.Omega.{arith}
+use mathlib.Core.Path.{refl}
+use lib.Dec.{leb}
+use lib.ListN.{get_or}
+use borrow.Author.Tests.{le-leb, lt-leb}
+use Rattle.simset_laws.specs.Walk.{Walking, walk_start, walk_found, walk_on, walk_out}
+use Rattle.simset.proofs.heads.head_at.Goals as goal
+
+pub loop-k-init : goal.loop-k-init
+loop-k-init c = rw c.wide-a.ensures (walk_start _ _ _ _ _ (c.requires.sound.inside _) _ refl)
+
+pub returns-then-i-heads : goal.returns-then-i-heads
+returns-then-i-heads c = walk_found _ _ _ _ _ _ _ c.loop-k.invariant c.loop-k-test.true (le-leb _ _ c.if-i-heads.true)
+
+pub loop-k-preserved : goal.loop-k-preserved
+loop-k-preserved c = walk_on _ _ _ _ _ _ _ c.loop-k.invariant c.loop-k-test.true c.requires.sound (lt-leb _ _ c.if-i-heads.false) c.if-i-heads.false _ (rw c.wide-p.ensures)
+
+pub returns : goal.returns
+returns c = walk_out _ _ _ _ _ _ _ c.loop-k.invariant c.loop-k-test.false

@@ -1,0 +1,9 @@
+use Rattle.simset.proofs.Moving.{Clears, clears_start, clears_done, clears_turn, clears_out}
+use native.Mathlib.Omega.{arith}
+use Rattle.simset.proofs.procedures.clear.Given as goal
+
+abbrev pub invariant-loop-k : goal.invariant-loop-k
+invariant-loop-k l = Clears l.m l.h l.initial.t l.t l.k
+
+abbrev pub decreases-loop-k : goal.decreases-loop-k
+decreases-loop-k l = l.k
