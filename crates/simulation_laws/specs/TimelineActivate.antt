@@ -24,6 +24,7 @@ use Rattle.simulation_laws.specs.NoticesKept.{NoticesKept, kept_ins, dropped_wit
 use Rattle.simulation_laws.specs.PlacedLaws.{placed_sorted, due_beside, not_ended, others_y}
 use Rattle.axis_laws.specs.Notices.{Process}
 use Rattle.simulation_laws.specs.Procedures.{vain, due_at}
+use Rattle.simulation_laws.specs.Replace.{timed_drop_first}
 use Rattle.simulation_laws.specs.Plain.{with_notices, above, leaving, due_for, placed, no_effect, timed_need, timed}
 use Rattle.model_laws.specs.Result.{done}
 use Rattle.model_laws.specs.Now.{time}
@@ -191,8 +192,8 @@ module _ (c : Counts) (M : Lists) (a : Timeline) (marks : List ℕ) (sp : Spells
   its_process again k x y (Party.proc p) f = p
 
   pub timed_agrees : (again : Bool) (k x y : ℕ) (z : ℤ) → timed_need c k x y ≡ true
-      → Agrees c a marks (timed c again k x y z M) (activated m again k (x - c.heads) (y - c.heads) (above z) marks a)
-  unfolding timed activated
+      → Agrees c a marks (timed_drop_first c again k x y z M) (activated m again k (x - c.heads) (y - c.heads) (above z) marks a)
+  unfolding timed_drop_first activated
   timed_agrees again k x y z g =
       let px : Party c x = party c x (and_right (leb k 6) _ (and_left (leb k 6 && or_none (is_process c x) x) _ g)) in
       let k6 : k ≤ 6 = leb-true k 6 (and_left (leb k 6) _ (and_left (leb k 6 && or_none (is_process c x) x) _ g)) in
