@@ -1,5 +1,5 @@
 -- One ring with its head at the last place: the places that it spells, unlinking and linking on it.
-use Rattle.std.specs.Prelude.{ℕ, ◌+◌, ◌-◌, ◌<◌, ◌≤◌, ◌≡◌, refl, List, [], ◌∷◌, eqb, ◌≢◌, Bool}
+use Rattle.std.specs.Prelude.{ℕ, ◌+◌, ◌-◌, ◌<◌, ◌≤◌, ◌≡◌, refl, List, [], ◌∷◌, eqb, ◌≢◌, Bool, get_or}
 use Rattle.std.proofs.Common.{ap, arith, eq-eqb, ne_eqb, eqb-true, inl, inr}
 use Rattle.std.proofs.lemmas.Bool.{eqb-false}
 use Rattle.ring_laws.specs.Lists.{In, without, behind, decide}
@@ -12,6 +12,13 @@ use Rattle.ring_laws.specs.Spell.{spells_cong, spells_unlinked, spells_behind}
 use Rattle.model.specs.declared.Counts.{Counts}
 use Rattle.axis_laws.specs.Notices.{Notice, whos, places}
 use Rattle.axis_laws.specs.NoticeOps.{dropped}
+
+-- the place behind x, and the one before it: another notice's, or that of the axis's own head; 0 where x has no notice
+abbrev pub next_place : List ℕ → ℕ → ℕ
+next_place axis x = get_or axis x 0
+
+abbrev pub prev_place : ℕ → List ℕ → ℕ → ℕ
+prev_place m axis x = get_or axis (m + x) 0
 
 -- the head is the last place
 abbrev pub axis_head : ℕ → ℕ → Bool

@@ -8,6 +8,7 @@ use Rattle.ring_laws.specs.Lists.{In, decide, below}
 use Rattle.ring_laws.specs.Chain.{Edge, Chain}
 use Rattle.ring_laws.specs.Stores.{sucs, pres}
 use Rattle.model.specs.declared.Counts.{Counts}
+use Rattle.axis_laws.specs.AxisRing.{next_place, prev_place}
 use Rattle.axis_laws.specs.Notices.{Notice, places, From, InOrder}
 use Rattle.axis_laws.specs.Reading.{Timed}
 use Rattle.axis_laws.specs.ByDue.{spot_in}
@@ -19,7 +20,7 @@ seek_from m times w t zero f b = b
 seek_from m times w t (suc k) f b =
     if eqb b (m - 1) then b
     else (if ltb (get_or times b 0) w then b
-    else (if leb w (get_or times f 0) then get_or t (m + f) 0 else seek_from m times w t k (get_or t f 0) (get_or t (m + b) 0)))
+    else (if leb w (get_or times f 0) then prev_place m t f else seek_from m times w t k (next_place t f) (prev_place m t b)))
 
 unfoldable pub found_on : ℕ → ℕ → List ℕ → List ℕ → ℕ
 found_on m w t times = seek_from m times w t m (get_or t (m - 1) 0) (get_or t (m + (m - 1)) 0)
@@ -42,12 +43,12 @@ module _ (m : ℕ) (times : List ℕ) (w : ℕ) (t : List ℕ) where
       (λ e. rw (eq-eqb b (m - 1) e))
       (λ n. rw (ne_eqb b (m - 1) n, lt-ltb (get_or times b 0) w l))
 
-  pub seek_front : (k f b : ℕ) → b ≢ m - 1 → w ≤ get_or times b 0 → w ≤ get_or times f 0 → seek_from m times w t (suc k) f b ≡ get_or t (m + f) 0
+  pub seek_front : (k f b : ℕ) → b ≢ m - 1 → w ≤ get_or times b 0 → w ≤ get_or times f 0 → seek_from m times w t (suc k) f b ≡ prev_place m t f
   unfolding seek_from
   seek_front k f b n l h = rw (ne_eqb b (m - 1) n, le-ltb (get_or times b 0) w l, le-leb w (get_or times f 0) h)
 
   pub seek_on : (k f b : ℕ) → b ≢ m - 1 → w ≤ get_or times b 0 → get_or times f 0 < w
-      → seek_from m times w t (suc k) f b ≡ seek_from m times w t k (get_or t f 0) (get_or t (m + b) 0)
+      → seek_from m times w t (suc k) f b ≡ seek_from m times w t k (next_place t f) (prev_place m t b)
   unfolding seek_from
   seek_on k f b n l h = rw (ne_eqb b (m - 1) n, le-ltb (get_or times b 0) w l, lt-leb w (get_or times f 0) h)
 

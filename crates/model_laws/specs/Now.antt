@@ -4,6 +4,7 @@ use Rattle.ring_laws.specs.Table.{Sound}
 use Rattle.model.specs.declared.Counts.{Counts}
 use Rattle.axis_laws.specs.Notices.{Notice}
 use Rattle.model_laws.specs.Tables.{Lists}
+pub use Rattle.axis_laws.specs.AxisRing.{next_place, prev_place}
 
 -- ---- on the lists
 
@@ -26,13 +27,6 @@ half c = c.processes + 2
 -- what a table must be for the axis to be read and changed in it: two halves of m words, each word a place below m
 abbrev pub AxisSound : ℕ → List ℕ → Type 0
 AxisSound m axis = Sound m axis
-
--- the place behind x, and the one before it: another notice's, or that of the axis's own head; 0 where x has no notice
-abbrev pub next_place : List ℕ → ℕ → ℕ
-next_place axis x = get_or axis x 0
-
-abbrev pub prev_place : ℕ → List ℕ → ℕ → ℕ
-prev_place m axis x = get_or axis (m + x) 0
 
 -- the process at x has no notice
 abbrev pub idle_on : List ℕ → ℕ → Bool

@@ -9,7 +9,7 @@ use Rattle.model.specs.declared.Refusal.TheVariants.{NoNotice, TimeLimit}
 use Rattle.model.specs.Counts.{limit}
 use Rattle.model.specs.declared.answer.Answer.{Answer}
 use Rattle.model.specs.declared.answer.Answer.TheVariants.{Done, Refused}
-use Rattle.axis_laws.specs.Seek.{found_on}
+use Rattle.axis_laws.specs.Seek.{seek_from}
 use Rattle.model_laws.specs.Now.{first_of, next_place, prev_place, idle_on, lone_on, time_of}
 
 -- the sequencing set: two lent tables
@@ -45,8 +45,8 @@ abbrev pub lone : ℕ → Sqs → Bool
 lone m a = lone_on m a.axis
 
 -- behind which place a notice stands in front of all from w on: RANK's place
-abbrev pub found : ℕ → ℕ → Sqs → ℕ
-found m w a = found_on m w a.axis a.times
+unfoldable pub found : ℕ → ℕ → Sqs → ℕ
+found m w a = seek_from m a.times w a.axis m (first_of m a.axis) (prev_on m a (m - 1))
 
 -- ---- the statements
 

@@ -17,7 +17,7 @@ use Rattle.axis_laws.specs.BesideLaws.{before_ins, after_ins}
 use Rattle.axis_laws.specs.Reading.{who_place, length_places}
 use Rattle.model_laws.specs.Now.{half}
 use Rattle.simulation_laws.specs.Procedures.{Sqs, prev_on, found, put_on, place_for}
-use Rattle.axis_laws.specs.Seek.{seek_from, found_on, seek_finds}
+use Rattle.axis_laws.specs.Seek.{seek_from, seek_finds}
 use Rattle.axis_laws.specs.ByDue.{by_due, by_ins, spot_in, spot_on, behind_spot, by_behind, by_front}
 use Rattle.simulation_laws.specs.Places.{SpellsTime, head, chain, member, off_head, dist_all, is_process_lem, a_link, timed}
 use Rattle.axis_laws.specs.Notices.{Process}
@@ -59,7 +59,7 @@ module _ (c : Counts) (ns : List Notice) (a : Sqs) (sp : SpellsTime c ns a) wher
 
   -- the search from both ends finds it: the fuel is enough
   pub seek_is : (w : ℕ) → InOrder ns → found (half c) w a ≡ spot_in c w (half c - 1) ns
-  unfolding found_on
+  unfolding found
   seek_is w o =
       ap (λ (f : ℕ). seek_from (half c) a.times w a.axis (half c) f (prev_on (half c) a (half c - 1)))
       (sym (get_or-take (half c) a.axis (half c - 1) 0 (omega arith)))

@@ -12,7 +12,7 @@ grown : (c : tie.After-product) → c.product.result ≡ c.before.before.before.
 grown c = gives2 ◌*ℤ◌ c.product.ensures c.before.before.before.ranges.c refl (word c.before.minus.type-inv) (since c.before)
 
 pub minus-requires : goal.minus-requires
-minus-requires c = asks2 ◌-ℤ◌ (word c.Signed-of.type_inv) c.Signed-of.ensures c.ranges.b refl (since_fits _ _ c.requires.required c.requires.time_in)
+minus-requires c = asks2 ◌-ℤ◌ (word c.signed_of.type_inv) c.signed_of.ensures c.ranges.b refl (since_fits _ _ c.requires.required c.requires.time_in)
 
 pub product-requires : goal.product-requires
 product-requires c = asks2 ◌*ℤ◌ c.ranges.c refl (word c.minus.type_inv) (since c) (product_fits _ _ c.requires.required c.requires.time_in)

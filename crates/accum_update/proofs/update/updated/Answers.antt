@@ -20,7 +20,7 @@ plus-c-requires c = asks2 ◌+ℤ◌ (word {z = c.args.x.c} c.struct_told-1.give
 pub returns-then-may_update : goal.returns-then-may_update
 returns-then-may_update c = stored_to _ _ _ (may (after-may-update (search)) c.if-may_update.true) _ _ _
     (kept (word c.gathered-a.type_inv) ∙ c.gathered-a.ensures ∙ ap2 ◌+ℤ◌ (kept {z = c.args.x.a} (word c.struct_told-1.given.0.1)) (ap2 ◌*ℤ◌ (kept {z = c.args.x.c} (word c.struct_told-1.given.1.1.0.1)) (ap (λ (z : ℤ). pos c.args.time -ℤ z) (kept {z = c.args.x.b} (word c.struct_told-1.given.1.0.1)))))
-    (kept (word c.Signed-of.type_inv) ∙ c.Signed-of.ensures)
+    (kept (word c.signed_of-b.type_inv) ∙ c.signed_of-b.ensures)
     (kept (word c.plus-c.type_inv) ∙ gives2 ◌+ℤ◌ c.plus-c.ensures (word {z = c.args.x.c} c.struct_told-1.given.1.1.0.1) refl c.ranges.d refl)
 
 pub returns-else-may_update : goal.returns-else-may_update

@@ -1,0 +1,11 @@
+use lib.Dec.{leb}
+use borrow.Author.Tests.{le-leb, lt-leb}
+use Rattle.sheet.specs.AllTo.{Remaining, left_start, left_turn, left_break, left_out}
+use Rattle.sheet.specs.Sheet.{start_at}
+use Rattle.sheet_check.proofs.check.starts_fine.Given as goal
+
+abbrev pub invariant-loop-p : goal.invariant-loop-p
+invariant-loop-p l = Remaining (λ k. leb (start_at l.sheet k) l.header.records) l.header.counts.processes l.p
+
+abbrev pub decreases-loop-p : goal.decreases-loop-p
+decreases-loop-p l = l.p

@@ -1,0 +1,7 @@
+use mathlib.Core.Path.{refl}
+use borrow.Author.Rules.{rules}
+use Rattle.sheet.specs.Tests.{or_off}
+use Rattle.sheet_check.proofs.fields.clause_fine.Goals as goal
+
+pub returns : goal.returns
+returns c = or_off _ _ _ c.if-used.false refl

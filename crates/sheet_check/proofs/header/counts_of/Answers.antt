@@ -1,0 +1,8 @@
+use mathlib.Core.Path.{◌∙◌}
+use borrow.Author.Rules.{rules}
+use Rattle.sheet.specs.Sheet.{counts_of}
+use Rattle.sheet_check.proofs.header.counts_of.Goals as goal
+
+pub returns : goal.returns
+unfolding counts_of
+returns c = c.new.ensures ∙ cc

@@ -1,0 +1,6 @@
+use borrow.Author.Rules.{rules}
+use Rattle.simulation_procedures.proofs.Chained.{dropped_by}
+use Rattle.simulation_procedures.proofs.axis.drop.Goals as goal
+
+pub returns : goal.returns
+returns c = dropped_by _ _ _ _ _ _ _ _ c.wide.ensures c.unlink.ensures c.wide-2.ensures c.store.ensures

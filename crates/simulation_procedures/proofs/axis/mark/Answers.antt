@@ -1,0 +1,6 @@
+use borrow.Author.Rules.{rules}
+use Rattle.simulation_laws.specs.Promise.{stored_past}
+use Rattle.simulation_procedures.proofs.axis.mark.Goals as goal
+
+pub returns-then-i-marks : goal.returns-then-i-marks
+returns-then-i-marks c = stored_past _ _ _ c.if-i-marks.true

@@ -1,0 +1,6 @@
+use borrow.Author.Rules.{rules}
+use Rattle.simulation_laws.specs.Promise.{stored_past}
+use Rattle.simulation_procedures.proofs.axis.store.Goals as goal
+
+pub returns-then-i-times : goal.returns-then-i-times
+returns-then-i-times c = stored_past _ _ _ c.if-i-times.true
