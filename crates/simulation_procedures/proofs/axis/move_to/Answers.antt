@@ -16,7 +16,7 @@ pub link_behind-requires-clause-yw_lt_m : goal.link_behind-requires-clause-yw_lt
 link_behind-requires-clause-yw_lt_m c = c.seek-q.ensures.within
 
 pub set_time-requires : goal.set_time-requires
-set_time-requires c = omega (arith, c.wide.ensures, c.requires.first.timed, c.drop_first.auto.1.1.0)
+set_time-requires c = omega (arith, c.wide.ensures, c.requires.first.timed, c.drop_first.auto.times)
 
 pub returns : goal.returns
 returns c = moved_by _ _ _ _ _ _ _ _ _ _ _ c.drop_first.ensures c.seek-q.ensures (put_by _ _ _ _ _ _ _ _ _ c.link_behind.ensures c.wide.ensures c.set_time.ensures)
