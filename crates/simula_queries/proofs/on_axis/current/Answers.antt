@@ -1,0 +1,14 @@
+use Rattle.simulation_laws.specs.ReadPromise.{current_told_lem}
+use Rattle.simulation_laws.specs.StepPromise.{first_low}
+use borrow.Author.Rules.{rules}
+use native.Mathlib.Omega.{arith}
+use Rattle.simula_queries.proofs.on_axis.current.Goals as goal
+
+pub first-f-requires : goal.first-f-requires
+first-f-requires c = rw c.wide-p.ensures c.requires.sound
+
+pub current_link-requires : goal.current_link-requires
+current_link-requires c = (c.requires.allowed.heads_in, omega (arith, c.requires.allowed.processes_in, first_low c.args.c _ c.requires _ (rw c.wide-p.ensures at c.first-f.ensures)))
+
+pub returns : goal.returns
+returns c = current_told_lem c.args.c _ _ _ _ (rw c.wide-p.ensures at c.first-f.ensures) c.current_link.ensures

@@ -1,0 +1,13 @@
+use Rattle.simset_laws.specs.Promise.{told_not, told, failed, passed}
+use Rattle.simulation_laws.specs.Calls.{terminated_told}
+use borrow.Author.Rules.{rules}
+use Rattle.std.proofs.Common.{ap, not}
+use Rattle.simula_queries.proofs.on_axis.terminated.Goals as goal
+
+pub returns-then-not-ok : goal.returns-then-not-ok
+unfolding terminated_told
+returns-then-not-ok c = told_not _ _ (failed _ _ c.is_process-ok.ensures (ap not c.if-not-ok.true))
+
+pub returns : goal.returns
+unfolding terminated_told
+returns c = told _ _ _ (passed _ _ c.is_process-ok.ensures (ap not c.if-not-ok.false)) (cc)

@@ -1,0 +1,14 @@
+use Rattle.simset_laws.specs.Promise.{head_in, failed, passed, told_not, told}
+use Rattle.simset_laws.specs.Calls.{first_told}
+use borrow.Author.Rules.{rules}
+use native.Mathlib.Omega.{arith}
+use Rattle.std.proofs.Common.{ap, not}
+use Rattle.simula_queries.proofs.on_links.first.Goals as goal
+
+pub returns-then-not-ok : goal.returns-then-not-ok
+unfolding first_told
+returns-then-not-ok c = told_not _ _ (failed _ _ c.is_head-ok.ensures (ap not c.if-not-ok.true))
+
+pub returns : goal.returns
+unfolding first_told
+returns c = told _ _ _ (passed _ _ c.is_head-ok.ensures (ap not c.if-not-ok.false)) (cc)
