@@ -1,7 +1,5 @@
-use lib.ListN.{length-set}
 use Rattle.accum_laws.specs.Flat.{with_words}
 use borrow.Author.Rules.{rules}
-use native.Mathlib.Omega.{arith}
 use Rattle.accum_update.proofs.flat.put.Goals as goal
 
 pub returns : goal.returns

@@ -1,7 +1,4 @@
-use Prim.Native.Nat.{◌-◌}
-use Rattle.accum_laws.specs.Gather.{Copied, copied_start, copied_taken, copied_out}
-use borrow.Author.Rules.{rules}
-use native.Mathlib.Omega.{arith}
+use Rattle.accum_laws.specs.Gather.{copied_start, copied_taken, copied_out}
 use Rattle.accum_update.proofs.gather.gather.Goals as goal
 
 pub loop-i-init : goal.loop-i-init

@@ -1,6 +1,5 @@
 use Prim.Native.Nat.{◌-◌}
-use Rattle.accum_laws.specs.Gather.{Copied, copied_start, copied_taken, copied_out}
-use native.Mathlib.Omega.{arith}
+use Rattle.accum_laws.specs.Gather.{Copied}
 use Rattle.accum_update.proofs.gather.gather.Given as goal
 
 abbrev pub invariant-loop-i : goal.invariant-loop-i

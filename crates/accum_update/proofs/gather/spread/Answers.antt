@@ -1,8 +1,6 @@
 use mathlib.Core.Path.{sym}
-use Prim.Native.Nat.{◌-◌}
-use Rattle.accum_laws.specs.Gather.{Copied, copied_start, copied_put, copied_out}
+use Rattle.accum_laws.specs.Gather.{copied_start, copied_put, copied_out}
 use borrow.Author.Rules.{rules}
-use native.Mathlib.Omega.{arith}
 use Rattle.accum_update.proofs.gather.spread.Goals as goal
 
 pub loop-i-init : goal.loop-i-init

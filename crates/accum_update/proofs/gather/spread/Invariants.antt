@@ -1,7 +1,5 @@
-use mathlib.Core.Path.{sym}
 use Prim.Native.Nat.{◌-◌}
-use Rattle.accum_laws.specs.Gather.{Copied, copied_start, copied_put, copied_out}
-use native.Mathlib.Omega.{arith}
+use Rattle.accum_laws.specs.Gather.{Copied}
 use Rattle.accum_update.proofs.gather.spread.Given as goal
 
 abbrev pub invariant-loop-i : goal.invariant-loop-i

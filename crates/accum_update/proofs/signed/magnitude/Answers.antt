@@ -1,5 +1,4 @@
-use Rattle.accum_laws.specs.Signed.{less_one_fits, less_one_cast, less_one_add, less_one_abs, same_cast}
-use borrow.Author.Rules.{rules}
+use Rattle.accum_laws.specs.Signed.{less_one_abs}
 use Rattle.accum_update.proofs.signed.magnitude.Goals as goal
 
 pub returns-then-x-lt0 : goal.returns-then-x-lt0
