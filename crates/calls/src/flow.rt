@@ -2,7 +2,8 @@
 ghost use Rattle.std.specs.Prelude.{◌≤◌, ◌≡◌, length};
 ghost use Rattle.calls.specs.Flow.{FlowFits};
 
-use libc::{STDIN_FILENO, STDOUT_FILENO};
+use crate::streams::Streams;
+use std::io::{Read, Write};
 
 #[derive(Clone, Copy)]
 pub struct Flow {
@@ -51,25 +52,31 @@ fn settle(flow: Flow, input: &mut [u8]) -> usize
     n
 }
 
-// Reads once behind `end`, and answers the new end: the same where the input has ended.
-fn read_behind(input: &mut [u8], end: usize) -> usize
+// Reads once behind `end`, and answers the new end: the same where the input has ended or a read failed.
+fn read_behind<R: Read, W: Write>(
+    input: &mut [u8],
+    end: usize,
+    streams: &mut Streams<R, W>,
+) -> usize
     requires { end ≤ length input.old }
     ensures { (end ≤ result) × (result ≤ length input.old) }
 {
-    let part = &mut input[end..];
-    let got = libc::read(STDIN_FILENO, part);
-    let n = io::count(got, part);
-    end + n
+    end + streams.read(&mut input[end..])
 }
 
 // Reads until n bytes stand at the front or the input ends.
-fn read_up_to(input: &mut [u8], from: usize, n: usize) -> usize
+fn read_up_to<R: Read, W: Write>(
+    input: &mut [u8],
+    from: usize,
+    n: usize,
+    streams: &mut Streams<R, W>,
+) -> usize
     requires { from ≤ length input.old }
     ensures { result ≤ length input.old }
 {
     let mut end = from;
     while end < n {
-        let next = read_behind(input, end);
+        let next = read_behind(input, end, streams);
         if next == end {
             return end;
         }
@@ -79,24 +86,30 @@ fn read_up_to(input: &mut [u8], from: usize, n: usize) -> usize
 }
 
 // Writes what waits.
-pub(crate) fn write_out(flow: Flow, output: &[u8]) {
+pub(crate) fn write_out<R: Read, W: Write>(flow: Flow, output: &[u8], streams: &mut Streams<R, W>) {
     let out = flow.out;
     if out <= output.len() {
-        io::write_all(STDOUT_FILENO, &output[..out]);
+        streams.write(&output[..out]);
     }
 }
 
 // Sees to it that n unused bytes stand in the input, if it has them. Before it waits for input it writes what waits.
-pub(crate) fn await_bytes(flow: Flow, input: &mut [u8], output: &[u8], n: usize) -> Flow
+pub(crate) fn await_bytes<R: Read, W: Write>(
+    flow: Flow,
+    input: &mut [u8],
+    output: &[u8],
+    n: usize,
+    streams: &mut Streams<R, W>,
+) -> Flow
     requires { FlowFits flow (length input.old) (length output.now) }
     ensures { FlowFits result (length input.old) (length output.now) }
 {
     if n <= flow.end - flow.at {
         return flow;
     }
-    write_out(flow, output);
+    write_out(flow, output, streams);
     let from = settle(flow, input);
-    let end = read_up_to(input, from, n);
+    let end = read_up_to(input, from, n, streams);
     Flow {
         at: 0,
         end,
@@ -106,14 +119,19 @@ pub(crate) fn await_bytes(flow: Flow, input: &mut [u8], output: &[u8], n: usize)
 }
 
 // Writes what waits where n bytes would not fit behind it.
-pub(crate) fn make_room(flow: Flow, output: &[u8], n: usize) -> Flow
+pub(crate) fn make_room<R: Read, W: Write>(
+    flow: Flow,
+    output: &[u8],
+    n: usize,
+    streams: &mut Streams<R, W>,
+) -> Flow
     requires { flow.out ≤ length output.now }
     ensures { (result.at ≡ flow.at) × (result.end ≡ flow.end) × (result.out ≤ length output.now) }
 {
     if n <= output.len() - flow.out {
         return flow;
     }
-    write_out(flow, output);
+    write_out(flow, output, streams);
     Flow {
         at: flow.at,
         end: flow.end,

@@ -6,7 +6,9 @@ ghost use Rattle.calls.specs.Flow.{FlowFits};
 use crate::answer::known;
 use crate::flow::{Flow, await_bytes, make_room, started, stopped, write_out};
 use crate::respond::respond;
+use crate::streams::Streams;
 use calls_served::head::{HEAD_BYTES, Head, contents_bytes, head_at, model_fits, run_fits};
+use std::io::{Read, Write};
 
 // Is the call known, and do its tables fit into the buffers?
 fn servable(head: Head) -> bool
@@ -26,20 +28,26 @@ fn servable(head: Head) -> bool
 }
 
 // A request of a known call whose tables fit: waits for the rest of it and for room for a response, which is no longer.
-fn take_request(head: Head, flow: Flow, input: &mut [u8], output: &mut [u8]) -> Flow
+fn take_request<R: Read, W: Write>(
+    head: Head,
+    flow: Flow,
+    input: &mut [u8],
+    output: &mut [u8],
+    streams: &mut Streams<R, W>,
+) -> Flow
     requires flow_fits { FlowFits flow (length input.old) (length output.old) }
     requires served { Served head.sizes }
     ensures { FlowFits result (length input.old) (length output.old) }
 {
     let n = head.sizes;
     let all = HEAD_BYTES + contents_bytes(n);
-    let whole = await_bytes(flow, input, output, all);
+    let whole = await_bytes(flow, input, output, all, streams);
     let at = whole.at;
     let end = whole.end;
     if end - at < all {
         return stopped(whole);
     }
-    let roomy = make_room(whole, output, all);
+    let roomy = make_room(whole, output, all, streams);
     let out = roomy.out;
     if output.len() - out < all {
         return stopped(roomy);
@@ -54,11 +62,16 @@ fn take_request(head: Head, flow: Flow, input: &mut [u8], output: &mut [u8]) -> 
 }
 
 // The next request: one that is cut short, of an unknown call, or past the buffers stops the flow.
-fn step(flow: Flow, input: &mut [u8], output: &mut [u8]) -> Flow
+fn step<R: Read, W: Write>(
+    flow: Flow,
+    input: &mut [u8],
+    output: &mut [u8],
+    streams: &mut Streams<R, W>,
+) -> Flow
     requires { FlowFits flow (length input.old) (length output.old) }
     ensures { FlowFits result (length input.old) (length output.old) }
 {
-    let next = await_bytes(flow, input, output, HEAD_BYTES);
+    let next = await_bytes(flow, input, output, HEAD_BYTES, streams);
     let at = next.at;
     if next.end - at < HEAD_BYTES {
         return stopped(next);
@@ -68,17 +81,21 @@ fn step(flow: Flow, input: &mut [u8], output: &mut [u8]) -> Flow
     if !ok {
         return stopped(next);
     }
-    take_request(head, next, input, output)
+    take_request(head, next, input, output, streams)
 }
 
 // Until the input ends or a request stops the flow. Nothing proves that an input ends, so turns are counted down.
-pub(crate) fn serve(input: &mut [u8], output: &mut [u8]) {
+pub(crate) fn serve<R: Read, W: Write>(
+    input: &mut [u8],
+    output: &mut [u8],
+    streams: &mut Streams<R, W>,
+) {
     let mut flow = started();
     let mut turns = u64::MAX;
     while 0 < turns {
-        flow = step(flow, input, output);
+        flow = step(flow, input, output, streams);
         if flow.ended {
-            write_out(flow, output);
+            write_out(flow, output, streams);
             return;
         }
         turns -= 1;

@@ -1,11 +1,8 @@
--- A piece of a run: one call with the first bytes of the trace buffer. What it leaves, and what the program needs of that; and how long a
--- number is.
-use Rattle.std.specs.Prelude.{ℕ, zero, suc, ◌*◌, ◌-◌, ◌^◌, ◌≤◌, ◌<◌, ◌≡◌, refl, List, length, take}
+-- A piece of a run: one call with the first bytes of the trace buffer. What it leaves, and what the program needs of that.
+use Rattle.std.specs.Prelude.{ℕ, ◌*◌, ◌≤◌, ◌<◌, ◌≡◌, refl, List, length, take}
 use Rattle.std.proofs.Common.{sym, arith}
 use Rattle.std.proofs.Math.Path.{ap, subst}
-use Rattle.std.proofs.Math.Numerals.{unary_clauses}
 use Rattle.std.proofs.Math.Seq.{length-take-le}
-use Rattle.ring_laws.specs.Lists.{below}
 use Rattle.model.specs.declared.Counts.{Counts}
 use Rattle.model_laws.specs.Now.{half, first_of}
 use Rattle.simulation_laws.specs.Promise.{Judged}
@@ -14,7 +11,6 @@ use Rattle.run_laws.specs.declared.Ran.{Ran}
 use Rattle.run_laws.specs.Run.{RunTables, RanOn, run_on}
 use Rattle.run_laws.specs.Standing.{Standing, its_judged, in_positions}
 use Rattle.run_laws.specs.GoesOn.{run_stands, run_room}
-use Rattle.io.specs.Digits.{IsDigitCount}
 
 -- the tables and the answer
 pub record PieceLeft : Type 0 where
@@ -59,22 +55,3 @@ stands_located c bytes u s =
       judged = its_judged c bytes u s;
       first_in_lem = in_positions c bytes u s (first_of (half c) u.model.axis) refl;
     }
-
--- ---- a number of 64 bits has at most 20 digits
-
-above : (m : ℕ) → 20 ≤ m → 18446744073709551616 ≤ 10 ^ m
-above zero h = omega arith
-above (suc m) h =
-    let e : 10 ^ suc m ≡ 10 * 10 ^ m = simp unary_clauses (omega arith) in
-    below 19 m
-    (λ l. omega (arith, e, above m l))
-    (λ l. let q : 19 ≡ m = omega arith in subst (λ (k : ℕ). 18446744073709551616 ≤ 10 ^ suc k) q (omega arith))
-
-pub few_digits : (n k : ℕ) → n < 18446744073709551616 → IsDigitCount 10 1 n k → k ≤ 20
-few_digits n k s f =
-    below 20 k
-    (λ l. absurd (no (f.2 (omega arith)) (above (k - 1) (omega arith))))
-    (λ l. l)
-  where
-    no : 10 ^ (k - 1) ≤ n → 18446744073709551616 ≤ 10 ^ (k - 1) → ⊥
-    no a b = omega arith

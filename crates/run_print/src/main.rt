@@ -1,27 +1,33 @@
 // Reads a sheet on standard input and prints its run: a line for each step, then how it ended.
 #![tactic(auto)]
+
+mod input;
 mod output;
 mod piece;
 mod show;
 
-use crate::output::say;
+use crate::input::read_full;
+use crate::output::Output;
 use crate::show::show;
-use libc::STDIN_FILENO;
 use sheet::header::Checked;
 use sheet_check::check::check;
+use std::io;
+use std::io::Write;
 
 // The sheet, or that it is refused: "sheet refused 8".
-fn run_sheet(sheet: &[u8]) {
+fn run_sheet<W: Write>(sheet: &[u8], output: &mut Output<W>) {
     let read = check(sheet);
     match read {
-        Checked::Accepted(header) => show(header, sheet),
-        Checked::Refused(_) => say(b"sheet refused 8\n"),
+        Checked::Accepted(header) => show(header, sheet, output),
+        Checked::Refused(_) => output.say(b"sheet refused 8\n"),
     }
 }
 
-// One byte more than the longest sheet, so that a longer input is refused.
-fn main() {
+// One byte more than the longest sheet, so that a longer input is refused. A read or a write that failed is the program's error.
+fn main(rt: HostRuntime) -> io::Result<()> {
     let mut sheet = [0u8; 52113];
-    let n = io::read_full(STDIN_FILENO, &mut sheet);
-    run_sheet(&sheet[..n]);
+    let n = read_full(&mut rt.stdin(), &mut sheet)?;
+    let mut output = Output::new(rt.stdout());
+    run_sheet(&sheet[..n], &mut output);
+    output.written
 }

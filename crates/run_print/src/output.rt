@@ -1,29 +1,58 @@
 // Output through a buffer of 4,096 bytes, written when no further line would fit.
-ghost use Rattle.std.specs.Prelude.{◌+◌, ◌≤◌, length};
+ghost use Rattle.std.specs.Prelude.{◌≡◌, ◌+◌, ◌≤◌, length, take, IsOk, OnOk};
+ghost use Rattle.std.specs.Fmt.{decimal};
+ghost use Rattle.std.specs.Io.KnownBytes.{Appends};
 
-use libc::STDOUT_FILENO;
+use itoa::Buffer;
+use std::io;
+use std::io::Write;
 
-// Writes a short text at once.
-pub(crate) fn say(text: &[u8]) {
-    io::write_all(STDOUT_FILENO, text);
+// Standard output, or what stands for it. The first write that fails is kept: after it nothing is written.
+#[derive(Drop)]
+pub(crate) struct Output<W> {
+    pub(crate) to: W,
+    pub(crate) written: io::Result<()>,
+}
+
+impl<W: Write> Output<W> {
+    pub(crate) fn new(to: W) -> Output<W>
+        ensures { IsOk result.written }
+    {
+        Output {
+            to,
+            written: Ok(()),
+        }
+    }
+
+    // Writes a text at once.
+    pub(crate) fn say(&mut self, text: &[u8])
+        ensures { OnOk self.new.written
+            (Appends (W.contents self.old.to) (W.contents self.new.to) text.now) }
+    {
+        if self.written.is_ok() {
+            self.written = self.to.write_all(text);
+        }
+    }
 }
 
 // Writes the first n bytes.
-pub(crate) fn write_first(out: &[u8], n: usize)
+pub(crate) fn write_first<W: Write>(out: &[u8], n: usize, output: &mut Output<W>)
     requires { n ≤ length out.now }
+    ensures { OnOk output.new.written
+        (Appends (W.contents output.old.to) (W.contents output.new.to) (take n out.now)) }
 {
-    io::write_all(STDOUT_FILENO, &out[..n]);
+    output.say(&out[..n]);
 }
 
 // Writes out what stands in the buffer where no further line would fit, and answers the next place.
-pub(crate) fn flushed(out: &[u8; 4096], at: usize) -> usize
+pub(crate) fn flushed<W: Write>(out: &[u8; 4096], at: usize, output: &mut Output<W>) -> usize
     requires { at ≤ 4096 }
     ensures { result + 128 ≤ 4096 }
 {
     if at <= 3968 {
         return at;
     }
-    write_first(out, at);
+    write_first(out, at, output);
     0
 }
 
@@ -43,9 +72,14 @@ pub(crate) fn put_text(out: &mut [u8; 4096], at: usize, text: &[u8]) -> usize
 
 // The digits of a number; answers how many.
 fn digits(n: u64, text: &mut [u8; 20]) -> usize
-    ensures { result ≤ 20 }
+    ensures bound { result ≤ 20 }
+    ensures value { take result text.new ≡ decimal n }
 {
-    io::decimal(n, text)
+    let mut buffer = Buffer::new();
+    let written = buffer.format(n).as_bytes();
+    let k = written.len();
+    text[..k].copy_from_slice(written);
+    k
 }
 
 // A number and a byte behind it at `at`; answers the place behind them.

@@ -4,9 +4,10 @@ ghost use Rattle.run_laws.specs.Run.{lent};
 ghost use Rattle.run_print.specs.Pieces.{left_by};
 ghost use Rattle.machine.specs.Run.{line_size};
 
-use crate::output::{flushed, put_count, put_number};
+use crate::output::{Output, flushed, put_count, put_number};
 use run::run;
 use run_laws::Ran;
+use std::io::Write;
 use trace::LINE_BYTES;
 use words::{u32_at, u64_at};
 
@@ -58,7 +59,13 @@ fn put_line(out: &mut [u8; 4096], at: usize, trace: &[u8], i: usize) -> usize
 }
 
 // The first n lines of the trace.
-pub(crate) fn put_lines(out: &mut [u8; 4096], start: usize, trace: &[u8], n: u32) -> usize
+pub(crate) fn put_lines<W: Write>(
+    out: &mut [u8; 4096],
+    start: usize,
+    trace: &[u8],
+    n: u32,
+    output: &mut Output<W>,
+) -> usize
     requires start_bound { start ≤ 4096 }
     requires n_in_bounds { line_size * n ≤ length trace.now }
     ensures { result ≤ 4096 }
@@ -67,7 +74,7 @@ pub(crate) fn put_lines(out: &mut [u8; 4096], start: usize, trace: &[u8], n: u32
     let mut i = 0;
     let mut k = 0;
     while k < n {
-        let free = flushed(out, at);
+        let free = flushed(out, at, output);
         at = put_line(out, free, trace, i);
         i += LINE_BYTES;
         k += 1;

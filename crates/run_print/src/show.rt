@@ -9,7 +9,7 @@ ghost use Rattle.run_laws.specs.Starting.{Startable};
 ghost use Rattle.run_print.specs.Pieces.{Located};
 ghost use Rattle.machine.specs.Run.{trace_limit};
 
-use crate::output::{flushed, put_count, put_number, put_text, write_first};
+use crate::output::{Output, flushed, put_count, put_number, put_text, write_first};
 use crate::piece::{piece, put_lines};
 use machine::End;
 use model::{Counts, Refusal};
@@ -18,6 +18,7 @@ use run::fresh::fresh_run;
 use run_arms::reading::{place_now, record_of};
 use run_laws::{RUN_WORDS, TRACE_LIMIT};
 use sheet::header::Header;
+use std::io::Write;
 
 // Whole pieces: 244 of 4,096 lines, and one of 576 lines, are 1,000,000.
 pub const WHOLE: usize = 244;
@@ -32,28 +33,41 @@ fn room(i: usize) -> usize
     9216
 }
 
-fn done(out: &mut [u8; 4096], start: usize, word: &[u8], steps: u64)
+fn done<W: Write>(
+    out: &mut [u8; 4096],
+    start: usize,
+    word: &[u8],
+    steps: u64,
+    output: &mut Output<W>,
+)
     requires word_len_bound { length word.now ≤ 12 }
     requires start_bound { start ≤ 4096 }
 {
-    let at = flushed(out, start);
+    let at = flushed(out, start, output);
     let a = put_text(out, at, word);
     let b = put_number(out, a, steps, b'\n');
-    write_first(out, b);
+    write_first(out, b, output);
 }
 
 // "refused N at record R after S"
-fn refused(out: &mut [u8; 4096], start: usize, q: Refusal, rec: u32, steps: u64)
+fn refused<W: Write>(
+    out: &mut [u8; 4096],
+    start: usize,
+    q: Refusal,
+    rec: u32,
+    steps: u64,
+    output: &mut Output<W>,
+)
     requires { start ≤ 4096 }
 {
-    let at = flushed(out, start);
+    let at = flushed(out, start, output);
     let a = put_text(out, at, b"refused ");
     let b = put_count(out, a, q.number(), b' ');
     let c = put_text(out, b, b"at record ");
     let d = put_count(out, c, rec, b' ');
     let e = put_text(out, d, b"after ");
     let f = put_number(out, e, steps, b'\n');
-    write_first(out, f);
+    write_first(out, f, output);
 }
 
 // The record that current is at.
@@ -66,7 +80,7 @@ fn record_now(c: Counts, axis: &[u32], positions: &[u32]) -> u32
 }
 
 // Piece after piece, on tables of a run of this sheet.
-fn pieces(
+fn pieces<W: Write>(
     c: Counts,
     sheet: &[u8],
     links: &mut [u32],
@@ -76,6 +90,7 @@ fn pieces(
     positions: &mut [u32],
     accums: &mut [i64],
     trace: &mut [u8],
+    output: &mut Output<W>,
 )
     requires standing { Standing c sheet.now (lent links.old axis.old times.old marks.old positions.old accums.old) }
     requires trace_limit_in_bounds { trace_limit ≤ length trace.old }
@@ -97,16 +112,23 @@ fn pieces(
             room(i),
         );
         let n = ran.lines;
-        at = put_lines(&mut out, at, trace, n);
+        at = put_lines(&mut out, at, trace, n, output);
         steps += n as u64;
         let end = ran.end;
         match end {
             End::Finished => {
-                done(&mut out, at, b"finished ", steps);
+                done(&mut out, at, b"finished ", steps, output);
                 return;
             }
             End::Refused(q) => {
-                refused(&mut out, at, q, record_now(c, axis, positions), steps);
+                refused(
+                    &mut out,
+                    at,
+                    q,
+                    record_now(c, axis, positions),
+                    steps,
+                    output,
+                );
                 return;
             }
             End::Full => {
@@ -114,11 +136,11 @@ fn pieces(
             }
         }
     }
-    done(&mut out, at, b"stopped ", steps);
+    done(&mut out, at, b"stopped ", steps, output);
 }
 
 // A fresh run over local tables, cut to the sheet's lengths.
-pub(crate) fn show(header: Header, sheet: &[u8])
+pub(crate) fn show<W: Write>(header: Header, sheet: &[u8], output: &mut Output<W>)
     requires { checked sheet.now ≡ Accepted header }
 {
     let c = header.counts;
@@ -142,11 +164,12 @@ pub(crate) fn show(header: Header, sheet: &[u8])
         &mut positions[..p],
         &mut accums,
         &mut trace,
+        output,
     );
 }
 
 // For a sheet that was accepted and tables of its lengths.
-fn on_tables(
+fn on_tables<W: Write>(
     header: Header,
     sheet: &[u8],
     links: &mut [u32],
@@ -156,6 +179,7 @@ fn on_tables(
     positions: &mut [u32],
     accums: &mut [i64],
     trace: &mut [u8],
+    output: &mut Output<W>,
 )
     requires startable { Startable header sheet.now (lent links.old axis.old times.old marks.old positions.old accums.old)
         trace.old }
@@ -164,6 +188,6 @@ fn on_tables(
     fresh_run(sheet, links, axis, times, marks, positions, accums);
     let c = header.counts;
     pieces(
-        c, sheet, links, axis, times, marks, positions, accums, trace,
+        c, sheet, links, axis, times, marks, positions, accums, trace, output,
     );
 }
