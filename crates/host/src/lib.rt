@@ -1,5 +1,6 @@
 // The edge for a C host: one function, with a fresh run's tables in local arrays.
 #![tactic(auto)]
+
 mod start;
 
 ghost use Rattle.std.specs.Prelude.{◌≡◌};
@@ -25,7 +26,7 @@ fn refused(q: Refusal) -> u64
 // the bytes after them stay as they were. The tables come first, before any way out: docs/DECISIONS.md says why.
 #[unsafe(no_mangle)]
 pub extern "C" fn nodbrize_run(sheet: &[u8], trace: &mut [u8]) -> u64
-    ensures { record { trace = trace.exit.now; number = result } ≡ hosted sheet.now trace.entry.now }
+    ensures { record { trace = trace.new; number = result } ≡ hosted sheet.now trace.old }
 {
     let mut links = [0u32; 8194];
     let mut axis = [0u32; 2052];
