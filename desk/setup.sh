@@ -8,18 +8,18 @@ engine=$root/target/bin/run_print
 
 say() { printf '%s: %s\n' "$self" "$*" >&2; }
 
-# One sum over the names and contents of the files in these folders.
+# One sum over the names and contents of the files in these folders, without what rt makes there.
 sum_of() {
-    (cd "$root" && find "$@" -type f ! -path '*/must-fail/*' -print0 | LC_ALL=C sort -z | xargs -0 sha256sum | sha256sum)
+    (cd "$root" && find "$@" -type f ! -path '*/must-fail/*' ! -path 'crates/*/out/*' -print0 | LC_ALL=C sort -z | xargs -0 sha256sum | sha256sum)
 }
 
-# The crates that the engine is made of, in the order of crates.txt.
+# The crates that the engine is made of, each after those that it is built on: what run_print's line in crates.txt names, but for the kit's.
 engine_crates() {
-    local needed name
-    needed=" run_print $(sed -n 's/^run_print: *//p' "$root/crates.txt") "
-    while IFS=: read -r name _; do
-        case $needed in *" $name "*) echo "$name" ;; esac
-    done < "$root/crates.txt"
+    local known name
+    known=" $(sed -n 's/^\([a-z0-9_]*\)[^:]*:.*/\1/p' "$root/crates.txt" | tr '\n' ' ')"
+    for name in $(sed -n 's/^run_print[^:]*://p' "$root/crates.txt") run_print; do
+        case $known in *" $name "*) echo "$name" ;; esac
+    done
 }
 
 engine_sum() {
@@ -80,18 +80,26 @@ setup_desk() {
     unlock
 }
 
-# Says which crate is being proved, the first of those that rt has not named as proved.
+# Says which crate is being proved: rt takes them in their order, and says nothing of those that it has proved before.
 progress() {
-    local crates line proved=" " at=0 said=-1
+    local crates line at=0 said=-1 i
     mapfile -t crates < <(engine_crates)
     while [ "$at" -lt "${#crates[@]}" ]; do
         if [ "$at" -ne "$said" ]; then say "proving $((at + 1)) of ${#crates[@]}: ${crates[at]} .."; fi
         said=$at
         IFS= read -r line || break
-        if [[ $line =~ ^rt:\ ([a-z0-9_]+)\ proved ]]; then proved+="${BASH_REMATCH[1]} "; fi
-        while [ "$at" -lt "${#crates[@]}" ] && [[ $proved == *" ${crates[at]} "* ]]; do at=$((at + 1)); done
+        [[ $line =~ ^crate\ ([a-z0-9_]+):\  ]] || continue
+        for ((i = at; i < ${#crates[@]}; i++)); do
+            if [ "${crates[i]}" = "${BASH_REMATCH[1]}" ]; then at=$((i + 1)); fi
+        done
     done
     cat > /dev/null
+}
+
+# rt run proves and builds the engine, and runs it, here on no input; the copy stays as it is until the sources change.
+build_engine() {
+    (cd "$root/crates/run_print" && { rt run < /dev/null > /dev/null; } 2>&1) || return
+    mkdir -p "$root/target/bin" && cp -f "$root/crates/run_print/out/run_print" "$engine.new" && mv -f "$engine.new" "$engine"
 }
 
 setup_engine() {
@@ -103,7 +111,7 @@ setup_engine() {
     if ! is_built "$engine" "$sum"; then
         say "proving and building the engine, once: five to ten minutes from nothing, less after a change"
         say "(the prover's own words go to $log)"
-        (cd "$root" && rt check run_print 2>&1) | tee "$log" | progress
+        build_engine | tee "$log" | progress
         [ "${PIPESTATUS[0]}" -eq 0 ] || not_built "the engine" "$log"
         note_built "$engine" "$sum"
         say "the engine is proved and built"

@@ -33,7 +33,8 @@ lent, and the others, `_axis`, `_step`, `_update` and so on, are parts of code; 
 
 def drawn():
     lines = [line.split("#")[0] for line in (ROOT / "crates.txt").read_text().splitlines()]
-    built_on = {name.strip(): deps.split() for name, deps in (line.split(":") for line in lines if line.strip())}
+    # a name may have words behind it, as staticlib
+    built_on = {name.split()[0]: deps.split() for name, deps in (line.split(":") for line in lines if line.strip())}
     level = {}
 
     def of(name):

@@ -11,29 +11,31 @@ mkdir -p copy/target/desk/release tools
 cp -r "$root/run" "$root/sheet" "$root/desk" copy
 cp "$root"/target/desk/release/desk{,.built} copy/target/desk/release
 cp "$root/examples/worked.sheet" worked.sheet
-printf '%s\n' '# by level' 'words:' 'ring:' 'calls: words ring' 'run: words ring' 'run_print: words ring run io' > copy/crates.txt
+printf '%s\n' '# by level' 'words:' 'ring:' 'calls: words ring' 'run: words ring' 'run_print: words ring run itoa' 'host staticlib: words run' > copy/crates.txt
 for crate in words ring calls run run_print; do
     mkdir -p "copy/crates/$crate/src" "copy/crates/$crate/must-fail"
     echo "// $crate" > "copy/crates/$crate/src/lib.rt"
 done
 
-# Commands that the scripts may use, and a prover that says what rt says.
-for tool in bash cat dirname env find flock mkdir readlink sed sha256sum sleep sort tail tee xargs; do
+# Commands that the scripts may use, and a prover that says what rt says: nothing of words, which it has proved before.
+for tool in bash cat cp dirname env find flock mkdir mv readlink sed sha256sum sleep sort tail tee tr xargs; do
     ln -s "$(command -v "$tool")" "tools/$tool"
 done
 cat > tools/rt <<EOF2
 #!/usr/bin/env bash
-echo "\$*" >> "$work/calls"
-echo "rt: ring proved (1 s)"
+echo "\$* in \${PWD##*/}" >> "$work/calls"
+exec 3>&1 >&2
 echo "a word of the prover's own"
-[ ! -e "$work/broken" ] || { echo "crates/run/src/lib.rt:3: error: not proved" && exit 1; }
-echo "rt: words proved (2 s)"
+[ ! -e "$work/broken" ] || { echo "src/lib.rt:3: error: not proved" && exit 1; }
+echo "crate ring: modules loaded=2 checked=1"
 [ ! -e "$work/slow" ] || sleep 1
-echo "rt: run proved (3 s)"
-mkdir -p target/bin
-cat "$root/target/bin/run_print" > target/bin/run_print
-chmod +x target/bin/run_print
-echo "rt: run_print proved (1 s)"
+echo "library ring: modules loaded=1 checked=0"
+echo "crate run: modules loaded=3 checked=1"
+mkdir -p out
+cat "$root/target/bin/run_print" > out/run_print
+chmod +x out/run_print
+echo "crate run_print: modules loaded=4 checked=2"
+echo "sheet refused 8" >&3
 EOF2
 ln -s "$(command -v chmod)" tools/chmod
 chmod +x tools/rt
@@ -47,7 +49,7 @@ built=("${first[@]}" "./run: proving 3 of 4: run .." "./run: proving 4 of 4: run
 # How often the prover has been called must be so.
 called() {
     local times=0
-    [ ! -e calls ] || times=$(grep -cx 'check run_print' calls)
+    [ ! -e calls ] || times=$(grep -cx 'run in run_print' calls)
     wants 0 < /dev/null
     try "$1" test "$times" -eq "$2"
 }
@@ -70,8 +72,10 @@ try "the second run says nothing" run worked.sheet
 find copy/crates copy/crates.txt copy/desk -exec touch {} +
 try "newer dates are no change" run worked.sheet
 echo "// more" >> copy/crates/calls/src/lib.rt
+mkdir -p copy/crates/ring/out
+echo "more" > copy/crates/ring/out/kept
 echo "edit" > copy/crates/run/must-fail/edit
-try "a crate that the engine has not, and an edit that must fail, are no change" run worked.sheet
+try "a crate that the engine has not, what rt keeps, and an edit that must fail, are no change" run worked.sheet
 called "so the prover was not called again" 1
 
 echo "// more" >> copy/crates/ring/src/lib.rt
@@ -86,7 +90,7 @@ called "three more calls" 4
 echo "// worse" >> copy/crates/run/src/lib.rt
 touch broken
 wants 1 "${first[@]}" "./run: the engine could not be built; the end of $work/copy/target/engine.log:" \
-    "rt: ring proved (1 s)" "a word of the prover's own" "crates/run/src/lib.rt:3: error: not proved" < /dev/null
+    "a word of the prover's own" "src/lib.rt:3: error: not proved" < /dev/null
 try "an engine that is not proved" run worked.sheet
 try "it is not taken for built" run worked.sheet
 rm broken

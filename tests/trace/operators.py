@@ -18,7 +18,7 @@ SPLITTING = 'crates/trace/src/bytes.rt'
 TESTING = ['calls', 'calls_served']
 
 NO_CODE = re.compile(r"""//[^\n]*|"(?:\\.|[^"\\])*"|b'(?:\\.|[^'\\])'|ghost\s+use\s[^;]*;""")
-CLAUSE = re.compile(r'\b(?:requires|ensures)\s*\{')
+CLAUSE = re.compile(r'\b(?:requires|ensures)\b\*?\s*(?:\w+\s*)?\{')
 FOUND = re.compile(r'<<|>>|[/%*]|\b\w*(?:mul|div|rem|pow|shl|shr)\w*\s*\(')
 
 
@@ -64,7 +64,7 @@ def planted(text):
         yield 'a comment in %s' % name, text[:start] + ' // 2 / 2 % 2 * 2\n' + text[start:], False
         yield 'a text in %s' % name, text[:start] + ' let planted = b"/%*";' + text[start:], False
     for clause in CLAUSE.finditer(text):
-        yield 'a clause', text[:clause.end()] + ' ⌜ 2 / 2 ≡ 2 * record { a = 2 % 2 } ⌝ ' + text[clause.end():], False
+        yield 'a clause', text[:clause.end()] + ' (2 / 2 ≡ 2 * record { a = 2 % 2 }) × ' + text[clause.end():], False
 
 
 def searched():
