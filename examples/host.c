@@ -1,7 +1,7 @@
 /* host.c - prints the run of a sheet by way of the C edge: host SHEET
  *
- *   rt staticlib host
- *   cc -O2 -Iinclude examples/host.c target/staticlib/libhost.a -o host
+ *   (cd crates/host && rt lib)
+ *   cc -O2 -Iinclude examples/host.c crates/host/out/libhost.a -o host
  *
  * Standard output has a line for each accepted step (time, process, record) and a last line that tells the end. Where
  * that is not `finished`, standard error tells it in words, and the exit status tells it to a script. */

@@ -1,6 +1,6 @@
 /* nodbrize.h - runs of model sheets for a C host.
  *
- * Link with libhost.a (`rt staticlib host` writes it to target/staticlib). docs/HOST.md says more. */
+ * Link with libhost.a (`rt lib` in crates/host writes it to crates/host/out). docs/HOST.md says more. */
 #ifndef NODBRIZE_H
 #define NODBRIZE_H
 
