@@ -1,5 +1,5 @@
 // Standard input and output, or what stands for them. The first read or write that fails is kept: after it nothing is read or written.
-ghost use Rattle.std.specs.Prelude.{◌≤◌, length, IsOk, OnOk, take};
+ghost use Rattle.std.specs.Prelude.{◌≡◌, ◌≤◌, length, IsOk, OnErr, OnOk, take};
 ghost use Rattle.std.specs.Io.KnownBytes.{Appends, Consumes};
 
 use std::io;
@@ -28,6 +28,8 @@ impl<R: Read, W: Write> Streams<R, W> {
         ensures bound { result ≤ length part.old }
         ensures bytes { OnOk self.new.moved
             (Consumes (R.remaining self.old.reader) (R.remaining self.new.reader) (take result part.new)) }
+        ensures failed { OnErr self.new.moved (result ≡ 0) }
+        ensures kept { OnErr self.old.moved (self.new ≡ self.old) }
     {
         if self.moved.is_err() {
             return 0;
@@ -43,8 +45,9 @@ impl<R: Read, W: Write> Streams<R, W> {
 
     // Writes all of it.
     pub(crate) fn write(&mut self, text: &[u8])
-        ensures { OnOk self.new.moved
+        ensures bytes { OnOk self.new.moved
             (Appends (W.contents self.old.writer) (W.contents self.new.writer) text.now) }
+        ensures kept { OnErr self.old.moved (self.new ≡ self.old) }
     {
         if self.moved.is_ok() {
             self.moved = self.writer.write_all(text);

@@ -1,5 +1,5 @@
 // Output through a buffer of 4,096 bytes, written when no further line would fit.
-ghost use Rattle.std.specs.Prelude.{◌≡◌, ◌+◌, ◌≤◌, length, take, IsOk, OnOk};
+ghost use Rattle.std.specs.Prelude.{◌≡◌, ◌+◌, ◌≤◌, length, take, IsOk, OnErr, OnOk};
 ghost use Rattle.std.specs.Fmt.{decimal};
 ghost use Rattle.std.specs.Io.KnownBytes.{Appends};
 
@@ -26,8 +26,9 @@ impl<W: Write> Output<W> {
 
     // Writes a text at once.
     pub(crate) fn say(&mut self, text: &[u8])
-        ensures { OnOk self.new.written
+        ensures bytes { OnOk self.new.written
             (Appends (W.contents self.old.to) (W.contents self.new.to) text.now) }
+        ensures kept { OnErr self.old.written (self.new ≡ self.old) }
     {
         if self.written.is_ok() {
             self.written = self.to.write_all(text);
@@ -38,8 +39,9 @@ impl<W: Write> Output<W> {
 // Writes the first n bytes.
 pub(crate) fn write_first<W: Write>(out: &[u8], n: usize, output: &mut Output<W>)
     requires { n ≤ length out.now }
-    ensures { OnOk output.new.written
+    ensures bytes { OnOk output.new.written
         (Appends (W.contents output.old.to) (W.contents output.new.to) (take n out.now)) }
+    ensures kept { OnErr output.old.written (output.new ≡ output.old) }
 {
     output.say(&out[..n]);
 }
