@@ -32,7 +32,7 @@ echo "crate ring: modules loaded=2 checked=1"
 echo "library ring: modules loaded=1 checked=0"
 echo "crate run: modules loaded=3 checked=1"
 mkdir -p out
-cat "$root/target/bin/run_print" > out/run_print
+cat "$root/crates/run_print/out/run_print" > out/run_print
 chmod +x out/run_print
 echo "crate run_print: modules loaded=4 checked=2"
 echo "sheet refused 8" >&3
