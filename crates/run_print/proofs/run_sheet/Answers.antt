@@ -1,0 +1,6 @@
+use mathlib.Core.Path.{sym, ◌∙◌}
+use borrow.Author.Rules.{rules}
+use Rattle.run_print.proofs.run_sheet.Goals as goal
+
+pub show-requires : goal.show-requires
+show-requires g c = sym c.check-read.ensures ∙ c.in-Accepted.is
