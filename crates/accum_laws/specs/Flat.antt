@@ -36,21 +36,6 @@ stored (Refused q) i l = record { words = l; answer = Turned q }
 unfoldable pub updated_in : ℕ → ℕ → ℤ → List ℤ → Changed
 updated_in k t d l = stored (updated_of (words_at (word_place k) l) t d) (word_place k) l
 
--- ---- what the code does, by the answer of the update
-
-module _ (k t : ℕ) (d : ℤ) (l : List ℤ) (i : ℕ) (at : i ≡ word_place k) (x : Accumulator) (is : x ≡ words_at i l) (u : Updated)
-    (e : u ≡ updated_of x t d) where
-  same : updated_of (words_at (word_place k) l) t d ≡ u
-  same = sym (e ∙ ap (λ (y : Accumulator). updated_of y t d) (is ∙ ap (λ (j : ℕ). words_at j l) at))
-
-  pub in_to : (v : Accumulator) (m : List ℤ) → u ≡ To v → m ≡ with_words i v l → record { words = m; answer = Done } ≡ updated_in k t d l
-  unfolding updated_in
-  in_to v m q p = rw (same ∙ q) (ap (λ (w : List ℤ). record { words = w; answer = Done }) (p ∙ ap (λ (j : ℕ). with_words j v l) at))
-
-  pub in_not : (q : Refusal) → u ≡ Refused q → record { words = l; answer = Turned q } ≡ updated_in k t d l
-  unfolding updated_in
-  in_not q f = rw (same ∙ f)
-
 -- ---- no other word is touched
 
 pub with_length : (i : ℕ) (v : Accumulator) (l : List ℤ) → length (with_words i v l) ≡ length l

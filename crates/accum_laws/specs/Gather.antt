@@ -15,7 +15,6 @@ use Rattle.accum_laws.specs.Flat.{words_at, with_words, with_length}
 use Rattle.accum_laws.specs.Triples.{flat, flat_length, flattened}
 use Rattle.accum_laws.specs.Calls.{count_fine, list_fine, list_judged, accum_listed, accum_at}
 use Rattle.accum_laws.specs.Promise.{words_are}
-use Rattle.accum_laws.specs.Runs.{listed_flat}
 
 pub flat_append : (xs ys : List Accumulator) → flat (xs ++ ys) ≡ flat xs ++ flat ys
 flat_append [] ys = refl
@@ -146,22 +145,3 @@ module _ (n m words : ℕ) (ok : Bool) (o : ok ≡ list_fine n words) (f : not o
 
   pub listed_within : (m ≤ 64) × (words ≡ 3 * m)
   listed_within = (listed_in, words_are n words passed ∙ ap (λ (j : ℕ). 3 * j) (sym w))
-
-module _ (c : Counts) (t : Tables) (n k : ℕ) (d : ℤ) (l : List ℤ) (ok : Bool) (o : ok ≡ list_fine n (length l)) where
-  -- words that are not three for each of 1 to 64 accumulators are refused
-  pub listed_size : not ok ≡ true → record { words = l; answer = Turned Size } ≡ accum_listed c t n k d l
-  unfolding accum_listed list_judged
-  listed_size e = rw (sym o ∙ not-true ok e)
-
-  module _ (f : not ok ≡ false) (m : ℕ) (w : m ≡ n) (xs : List Accumulator) (q : flat xs ≡ l) where
-    -- as many structs as were counted
-    same_count : length xs ≡ n
-    same_count = omega (arith, flat_length xs, ap (λ (v : List ℤ). length v) q, (listed_within n m (length l) ok o f w).1, w)
-
-    -- else accum on structs that are the words answers for the words
-    pub listed_lent : (ys : List Accumulator) (r : Answer) (e : ℤ) → e ≡ d → record { list = ys; answer = r } ≡ accum_at c t k e xs
-        → (v : List ℤ) → v ≡ flat ys → record { words = v; answer = r } ≡ accum_listed c t n k d l
-    listed_lent ys r e x p v z =
-        ap (λ (u : List ℤ). record { words = u; answer = r }) z ∙ ap flattened (p ∙ ap (λ (y : ℤ). accum_at c t k y xs) x)
-        ∙ sym (listed_flat c t k d xs) ∙ ap (λ (u : List ℤ). accum_listed c t (length xs) k d u) q
-        ∙ ap (λ (j : ℕ). accum_listed c t j k d l) same_count

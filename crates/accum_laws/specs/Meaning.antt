@@ -14,9 +14,9 @@ use Rattle.model.specs.declared.verdict.Verdict.{Verdict}
 use Rattle.model.specs.declared.verdict.Verdict.TheVariants.{Fine, Refused as Judged}
 use Rattle.model_laws.specs.Tables.{Tables, Lists, Sized, Spells}
 use Rattle.model_laws.specs.Judge.{judged}
-use Rattle.model_laws.specs.Verdict.{judged_says}
+use Rattle.model_laws.proofs.Verdict.{judged_says}
 use Rattle.model_laws.specs.Now.{time, half, time_of}
-use Rattle.model_laws.specs.NowLaws.{time_now}
+use Rattle.model_laws.proofs.NowLaws.{time_now}
 use Rattle.accum_laws.specs.declared.Accumulator.{Accumulator}
 use Rattle.accum_laws.specs.declared.Updated.{Updated}
 use Rattle.accum_laws.specs.declared.Updated.TheVariants.{To, Refused}

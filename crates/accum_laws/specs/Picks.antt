@@ -47,47 +47,7 @@ pub record PickFound (c : Counts) (t : Tables) (l : List Accumulator) (k : ℕ) 
   pub after : (d : ℤ) (r : Kept) → r ≡ accum_one (get_or l p.at zero_accumulator) p.time d
       → record { list = set l p.at r.value; answer = r.answer } ≡ accum_at c t k d l
 
-kept_listed : (u : Updated) (k : ℕ) (l : List Accumulator)
+pub kept_listed : (u : Updated) (k : ℕ) (l : List Accumulator)
     → record { list = set l (k - 1) (kept_of u (numbered k l)).value; answer = (kept_of u (numbered k l)).answer } ≡ list_after u k l
 kept_listed (To v) k l = refl
 kept_listed (Refused q) k l = ap (λ (m : List Accumulator). record { list = m; answer = Turned q }) (set-get_or l (k - 1) zero_accumulator)
-
-found_by : (c : Counts) (t : Tables) (l : List Accumulator) (k : ℕ) → list_judged (count_fine (length l)) (number_fine (length l) k) c t ≡ Fine
-    → PickFound c t l k (record { refused = false; at = k - 1; time = time_of (half c) t.axis t.times; answer = Done })
-unfolding accum_at updated_at accum_one
-found_by c t l k e =
-    let p = list_passed _ _ c t e in
-    let m = number_in (length l) k p.number_is in
-    record {
-      inside = omega (arith, m);
-      time_within = time_in c t (time_of (half c) t.axis t.times) p.tables_are refl;
-      after = λ d r q.
-          ap (λ (s : Kept). record { list = set l (k - 1) s.value; answer = s.answer }) q
-          ∙ kept_listed (updated_of (numbered k l) (time_of (half c) t.axis t.times) d) k l
-          ∙ sym (ap (λ (w : Verdict). listing w l (list_after (updated_of (numbered k l) (time_of (half c) t.axis t.times) d) k l)) e);
-    }
-
-module _ (c : Counts) (t : Tables) (l : List Accumulator) (k : ℕ) (p : Picked) (e : p ≡ pick_of c t (length l) k) where
-  picked_as : (v : Verdict) → list_judged (count_fine (length l)) (number_fine (length l) k) c t ≡ v
-      → p ≡ picking v (k - 1) (time_of (half c) t.axis t.times)
-  unfolding pick_of
-  picked_as v q = e ∙ ap (λ (w : Verdict). picking w (k - 1) (time_of (half c) t.axis t.times)) q
-
-  pub pick_found : p.refused ≡ false → PickFound c t l k p
-  pick_found f = go (list_judged (count_fine (length l)) (number_fine (length l) k) c t) refl
-    where
-      go : (v : Verdict) → list_judged (count_fine (length l)) (number_fine (length l) k) c t ≡ v → PickFound c t l k p
-      go Fine q = subst (PickFound c t l k) (sym (picked_as Fine q)) (found_by c t l k q)
-      go (Judged r) q = clash (sym f ∙ ap (λ (s : Picked). s.refused) (picked_as (Judged r) q))
-
-  pub pick_not : (d : ℤ) → p.refused ≡ true → record { list = l; answer = p.answer } ≡ accum_at c t k d l
-  unfolding accum_at
-  pick_not d f = go (list_judged (count_fine (length l)) (number_fine (length l) k) c t) refl
-    where
-      go : (v : Verdict) → list_judged (count_fine (length l)) (number_fine (length l) k) c t ≡ v
-          → record { list = l; answer = p.answer } ≡ listing (list_judged (count_fine (length l)) (number_fine (length l) k) c t) l
-          (updated_at k (time_of (half c) t.axis t.times) d l)
-      go Fine q = clash (sym (ap (λ (s : Picked). s.refused) (picked_as Fine q)) ∙ f)
-      go (Judged r) q =
-          ap (λ (s : Picked). record { list = l; answer = s.answer }) (picked_as (Judged r) q)
-          ∙ sym (ap (λ (w : Verdict). listing w l (updated_at k (time_of (half c) t.axis t.times) d l)) q)

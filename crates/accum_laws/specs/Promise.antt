@@ -13,7 +13,8 @@ use Rattle.model.specs.declared.verdict.Verdict.{Verdict}
 use Rattle.model.specs.declared.verdict.Verdict.TheVariants.{Fine, Refused as Judged}
 use Rattle.model_laws.specs.Tables.{Tables}
 use Rattle.model_laws.specs.Judge.{judged}
-use Rattle.model_laws.specs.Ready.{Ready, judged_ready}
+use Rattle.model_laws.specs.Ready.{Ready}
+use Rattle.model_laws.proofs.Ready.{judged_ready}
 use Rattle.model_laws.specs.Now.{first_of, half, time_of}
 use Rattle.accum_laws.specs.declared.Accumulator.{Accumulator}
 use Rattle.accum_laws.specs.declared.Kept.{Kept}

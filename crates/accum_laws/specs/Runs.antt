@@ -16,7 +16,7 @@ use Rattle.accum_laws.specs.declared.Accumulator.{Accumulator}
 use Rattle.accum_laws.specs.declared.Updated.{Updated}
 use Rattle.accum_laws.specs.declared.Updated.TheVariants.{To, Refused}
 use Rattle.accum_laws.specs.Update.{updated_of, Required}
-use Rattle.accum_laws.specs.Keeps.{zero_accumulator, zeros_required, required_later, accepted_required, refused_rate}
+use Rattle.accum_laws.specs.Keeps.{zero_accumulator, zeros_required, required_later}
 use Rattle.accum_laws.specs.Flat.{updated_in}
 use Rattle.accum_laws.specs.Triples.{flat, flattened, flat_length, flat_updated, numbered, list_after, updated_at}
 use Rattle.accum_laws.specs.Calls.{count_fine, list_fine, number_fine, list_judged, changing, listing, accum_listed, accum_at}
@@ -27,23 +27,9 @@ and_true : (a : Bool) → (a && true) ≡ a
 and_true true = refl
 and_true false = refl
 
-flat_fine : (l : List Accumulator) → list_fine (length l) (length (flat l)) ≡ count_fine (length l)
+pub flat_fine : (l : List Accumulator) → list_fine (length l) (length (flat l)) ≡ count_fine (length l)
 unfolding list_fine
 flat_fine l = rw (eq-eqb (length (flat l)) (3 * length l) (flat_length l)) (and_true (count_fine (length l)))
-
--- the call on the words of a list is the call on the list
-pub listed_flat : (c : Counts) (t : Tables) (k : ℕ) (d : ℤ) (l : List Accumulator)
-    → accum_listed c t (length l) k d (flat l) ≡ flattened (accum_at c t k d l)
-unfolding accum_listed accum_at
-listed_flat c t k d l =
-    ap (λ (b : Bool). changing (list_judged b (number_fine (length l) k) c t) (flat l)
-    (updated_in k (time_of (half c) t.axis t.times) d (flat l))) (flat_fine l)
-    ∙ go (list_judged (count_fine (length l)) (number_fine (length l) k) c t)
-  where
-    go : (v : Verdict) → changing v (flat l) (updated_in k (time_of (half c) t.axis t.times) d (flat l))
-        ≡ flattened (listing v l (updated_at k (time_of (half c) t.axis t.times) d l))
-    go Fine = flat_updated k (time_of (half c) t.axis t.times) d l
-    go (Judged r) = refl
 
 -- ---- a run's accumulators
 
@@ -60,35 +46,10 @@ zeros_at (suc n) (suc i) = zeros_at n i
 pub fresh_each : (n t : ℕ) → Each (replicate n zero_accumulator) t
 fresh_each n t i = rw (zeros_at n i) (zeros_required t)
 
-set_each : (l : List Accumulator) (j : ℕ) (v : Accumulator) (t : ℕ) → Each l t → Required v t → Each (set l j v) t
+pub set_each : (l : List Accumulator) (j : ℕ) (v : Accumulator) (t : ℕ) → Each l t → Required v t → Each (set l j v) t
 set_each l j v t a r i =
     decide i j
     (λ e. below i (length l)
     (λ b. subst (λ (n : ℕ). Required (get_or (set l n v) i zero_accumulator) t) e (rw (get_or-set_same l i v zero_accumulator b) r))
     (λ b. subst (λ (n : ℕ). Required (get_or (set l n v) i zero_accumulator) t) e (rw (set_out l i v b) (a i))))
     (λ n. rw (get_or-set_other l j i v zero_accumulator n) (a i))
-
--- accum at a time that is no earlier keeps all as required
-pub each_kept : (k t u : ℕ) (d : ℤ) (l : List Accumulator) → t ≤ u → Each l t → Each (updated_at k u d l).list u
-unfolding updated_at
-each_kept k t u d l b a = go (updated_of (numbered k l) u d) refl
-  where
-    later : Each l u
-    later i = required_later (get_or l i zero_accumulator) t u b (a i)
-
-    go : (w : Updated) → updated_of (numbered k l) u d ≡ w → Each (list_after w k l).list u
-    go (To v) e = set_each l (k - 1) v u later (accepted_required (numbered k l) u d v e)
-    go (Refused q) e = later
-
--- and refusal 7 then says that c + d would pass
-pub each_refused : (k t : ℕ) (d : ℤ) (l : List Accumulator) → Each l t → (updated_at k t d l).answer ≡ Turned NotAsRequired
-    → 1000000 < nat_abs ((numbered k l).c +ℤ d)
-unfolding updated_at
-each_refused k t d l a = go (updated_of (numbered k l) t d) refl
-  where
-    go : (w : Updated) → updated_of (numbered k l) t d ≡ w → (list_after w k l).answer ≡ Turned NotAsRequired
-        → 1000000 < nat_abs ((numbered k l).c +ℤ d)
-    go (To v) e q = let z : false ≡ true = cc in clash z
-    go (Refused r) e q =
-        let z : r ≡ NotAsRequired = cc in
-        refused_rate (numbered k l) t d (a (k - 1)) (e ∙ ap (λ (w : Refusal). Refused w) z)

@@ -8,7 +8,8 @@ use Rattle.ring_laws.specs.Table.{unlinked, linked_behind}
 use Rattle.ring_laws.specs.Stores.{sucs}
 use Rattle.ring_laws.specs.Rows.{Layout}
 use Rattle.ring_laws.specs.Spell as ring
-use Rattle.ring_laws.specs.Spell.{spells_cong, spells_unlinked, spells_behind}
+use Rattle.ring_laws.specs.Spell.{spells_cong}
+use Rattle.ring_laws.proofs.Spell.{spells_unlinked, spells_behind}
 use Rattle.model.specs.declared.Counts.{Counts}
 use Rattle.axis_laws.specs.Notices.{Notice, whos, places}
 use Rattle.axis_laws.specs.NoticeOps.{dropped}

@@ -10,11 +10,11 @@ use Rattle.ring_laws.specs.Chain.{Chain, next_in_lem}
 use Rattle.ring_laws.specs.Rings.{Head, Rings, apart, rings_cong, next_place_lem}
 use Rattle.ring_laws.specs.Stores.{sucs, pres, suc_at}
 use Rattle.ring_laws.specs.Judge.{idle, busy, rings_fine}
-use Rattle.ring_laws.specs.Busy.{idle_not, idle_zeros, zeros_idle, busy_place, place_busy, busy_dist}
-use Rattle.ring_laws.specs.Fine.{sound, complete}
+use Rattle.ring_laws.proofs.Busy.{idle_not, idle_zeros, zeros_idle, busy_place, place_busy, busy_dist}
+use Rattle.ring_laws.proofs.Fine.{sound, complete}
 use Rattle.ring_laws.specs.Rows.{at_most_more}
 use Rattle.ring_laws.specs.Table.{Sound}
-use Rattle.ring_laws.specs.Spell.{spells_sound}
+use Rattle.ring_laws.proofs.Spell.{spells_sound}
 use Rattle.axis_laws.specs.Notices.{due_of}
 use Rattle.axis_laws.specs.AxisRing.{axis_head, SpellsAxis}
 use Rattle.axis_laws.specs.AxisRing.{axis_layout, axis_head_lem, axis_event}

@@ -5,7 +5,7 @@ use Rattle.std.proofs.Math.ListN.{get_or-eq_default}
 use Rattle.ring_laws.specs.Lists.{In, below, inside}
 use Rattle.ring_laws.specs.Table.{Sound}
 use Rattle.ring_laws.specs.Stores.{sucs, pres, suc_at}
-use Rattle.ring_laws.specs.Spell.{spells_sound}
+use Rattle.ring_laws.proofs.Spell.{spells_sound}
 use Rattle.model.specs.declared.Counts.{Counts}
 use Rattle.axis_laws.specs.Notices.{Notice}
 use Rattle.axis_laws.specs.AxisRing.{axis_head}

@@ -8,7 +8,8 @@ use borrow.Author.Tests.{eq-eqb, ne_eqb, eqb-true}
 use Rattle.ring_laws.specs.Lists.{In, decide, clash}
 use Rattle.ring_laws.specs.Chain.{Chain}
 use Rattle.ring_laws.specs.Judge.{allowed, step, walk}
-use Rattle.ring_laws.specs.RingWalk.{WalkPassed, walk_chain, walk_broken, walk_back, walk_short, walk_on, step_not, step_is, allowed_head, mean_allowed}
+use Rattle.ring_laws.specs.RingWalk.{WalkPassed, walk_broken, walk_back, walk_short, walk_on, step_not, step_is, allowed_head, mean_allowed}
+use Rattle.ring_laws.proofs.RingWalk.{walk_chain}
 use Rattle.axis_laws.specs.Groups.{Group, group, members, leaders}
 use Rattle.axis_laws.specs.Loops.{Loops}
 use Rattle.axis_laws.specs.Judge.{rounds}

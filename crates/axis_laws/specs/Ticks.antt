@@ -6,7 +6,7 @@ use Rattle.ring_laws.specs.Distinct.{Dist, in_left}
 use Rattle.ring_laws.specs.Chain.{Chain}
 use Rattle.ring_laws.specs.Rings.{Head, Link, next_place_lem, free}
 use Rattle.ring_laws.specs.Stores.{sucs, pres, suc_at}
-use Rattle.ring_laws.specs.Spell.{spells_dist, spells_few}
+use Rattle.ring_laws.proofs.Spell.{spells_dist, spells_few}
 use Rattle.axis_laws.specs.AxisRing.{axis_head, SpellsAxis}
 use Rattle.axis_laws.specs.Groups.{Group, members, leaders}
 use Rattle.axis_laws.specs.Outs.{lead_in, own_not_later, own_in, later_in, later_dist}

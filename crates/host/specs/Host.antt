@@ -22,7 +22,8 @@ use Rattle.run_laws.specs.Run.{run_on, judged_run, end_code, ran_number}
 use Rattle.run_laws.specs.TurnsFollow.{lines_bytes}
 use Rattle.run_laws.specs.Fresh.{fresh_run, fresh_stands}
 use Rattle.run_laws.specs.Starting.{started_on}
-use Rattle.run_laws.specs.CallFollows.{Agrees, call_agrees, judged_short, by_judge}
+use Rattle.run_laws.specs.CallFollows.{Agrees}
+use Rattle.run_laws.proofs.CallFollows.{call_agrees, judged_short, by_judge}
 
 -- the trace after a call, and the number
 pub record Hosted : Type 0 where

@@ -24,10 +24,12 @@ use Rattle.axis_laws.specs.BesideLaws.{before_none, after_none}
 use Rattle.simulation_laws.specs.AgreeEnds.{has_in, has_none}
 use Rattle.simulation_laws.specs.PlacedLaws.{due_beside, others_y}
 use Rattle.simulation_laws.specs.StepPromise.{clause_in}
-use Rattle.simulation_laws.specs.Replace.{timed_drop_first, drop_first}
+use Rattle.simulation_laws.specs.Replace.{timed_drop_first}
+use Rattle.simulation_laws.proofs.Replace.{drop_first}
 use Rattle.simulation_laws.specs.Ties.{is_behind}
-use Rattle.simulation_laws.specs.Forward.{Later, hold_forward, passivate_forward, cancel_forward, finish_forward, wait_forward}
-use Rattle.simulation_laws.specs.Forward.{timed_forward}
+use Rattle.simulation_laws.specs.Forward.{Later}
+use Rattle.simulation_laws.proofs.Forward.{hold_forward, passivate_forward, cancel_forward, finish_forward, wait_forward}
+use Rattle.simulation_laws.proofs.Forward.{timed_forward}
 use Rattle.simulation_laws.specs.Plain.{with_notices, with_terminated, above, leaving, up_to, due_for, placed, no_effect, timed_need}
 use Rattle.simulation_laws.specs.Plain as plain
 use Rattle.machine.specs.Calls.{ListCall, on_set, hold, passivate, wait, cancel, activate, if_empty, finish, lists_after}

@@ -15,7 +15,8 @@ use Rattle.axis_laws.specs.NoticeLaws.{drop_none, drop_in}
 use Rattle.axis_laws.specs.BesideLaws.{before_none, after_none}
 use Rattle.simulation_laws.specs.PlacedLaws.{due_beside}
 use Rattle.simulation_laws.specs.Plain.{leaving, timed_need, no_effect, placed, timed, cancel}
-use Rattle.simulation_laws.specs.Replace.{timed_drop_first, drop_first}
+use Rattle.simulation_laws.specs.Replace.{timed_drop_first}
+use Rattle.simulation_laws.proofs.Replace.{drop_first}
 use Rattle.machine.specs.Operands.{first_process}
 
 -- ---- "the first member of head h that is a process, or none"

@@ -10,7 +10,7 @@ use lib.Seq.{take_all, take-suc-set}
 use borrow.Author.Tests.{not-true, not-false}
 use Rattle.ring_laws.specs.Lists.{zeros}
 use Rattle.ring_laws.specs.Table.{Sound, self_linked, linked_before}
-use Rattle.ring_laws.specs.Spell.{spells_sound}
+use Rattle.ring_laws.proofs.Spell.{spells_sound}
 use Rattle.ring_laws.specs.Empty.{length_zeros}
 use Rattle.model.specs.declared.Counts.{Counts}
 use Rattle.model.specs.declared.Refusal.TheVariants.{Size}

@@ -13,7 +13,7 @@ use Rattle.ring_laws.specs.Judge.{idle, rings_fine}
 use Rattle.model.specs.Counts.{limit}
 use Rattle.model_laws.specs.Judge.{time_fine, places_fine, axis_fine}
 use Rattle.axis_laws.specs.Marks.{mark_fine}
-use Rattle.model_laws.specs.Tests.{time_idle, time_past, time_last, time_next, places_none, places_time, places_mark, places_on}
+use Rattle.model_laws.proofs.Tests.{time_idle, time_past, time_last, time_next, places_none, places_time, places_mark, places_on}
 
 module _ (p : ℕ) (axis times : List ℕ) (y : ℕ) (zeros : Bool) (e : zeros ≡ idle (sucs (p + 2) axis) (pres (p + 2) axis) y) where
   pub t_idle : zeros ≡ true → eqb (get_or times y 0) 0 ≡ time_fine (sucs (p + 2) axis) (pres (p + 2) axis) (p + 1) times y

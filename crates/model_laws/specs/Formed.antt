@@ -5,9 +5,9 @@ use Rattle.std.proofs.lemmas.Bool.{lt-leb}
 use Rattle.ring_laws.specs.Lists.{In, decide, test, inside}
 use Rattle.ring_laws.specs.Distinct.{Dist}
 use Rattle.ring_laws.specs.Stores.{sucs, pres}
-use Rattle.ring_laws.specs.Spell.{spells_dist}
+use Rattle.ring_laws.proofs.Spell.{spells_dist}
 use Rattle.ring_laws.specs.Rows.{Layout}
-use Rattle.ring_laws.specs.Fine.{sound, complete}
+use Rattle.ring_laws.proofs.Fine.{sound, complete}
 use Rattle.model.specs.declared.Counts.{Counts}
 use Rattle.model.specs.Counts.{total, most_members, both, and_on}
 use Rattle.axis_laws.specs.Notices.{whos, places, due_of}
@@ -15,7 +15,7 @@ use Rattle.ring_laws.specs.Tabulate.{has, bit, table_at, at_table, has_in}
 use Rattle.model_laws.specs.Tables.{Tables, Lengths, Lists, set_head, SpellsSets, Limited, Spells, WellFormed}
 use Rattle.axis_laws.specs.AxisRing.{axis_head}
 use Rattle.model_laws.specs.Judge.{links_fine, axis_fine, tables_fine}
-use Rattle.model_laws.specs.AxisJudged.{AxisSpelled, axis_sound, axis_complete}
+use Rattle.model_laws.specs.AxisJudged.{AxisSpelled}
 use Rattle.axis_laws.specs.AxisRing.{axis_head_lem, axis_event}
 use Rattle.axis_laws.specs.Reading.{Timed, notices_of, places_of, length_of_lem, due_in_lem, due_out, order_of, within_of, whos_of, ended_of}
 use Rattle.axis_laws.specs.Reading.{ended_mark, mark_is, who_place, place_who, dist_whos, length_places, due_none, timed}
@@ -48,7 +48,7 @@ links_complete m H t sets l s few =
 -- ---- from places with notices, and marks, to the lists
 
 module _ (c : Counts) (t : Tables) (len : Lengths c t) (sets : List (List ℕ)) (events : List ℕ) where
-  abbrev lists_of : Lists
+  abbrev pub lists_of : Lists
   lists_of =
       record {
         sets = sets;
@@ -56,7 +56,7 @@ module _ (c : Counts) (t : Tables) (len : Lengths c t) (sets : List (List ℕ)) 
         terminated = ended_of c.heads t.marks c.processes;
       }
 
-  events_spelled : SpellsSets (total c + 1) c.heads sets t.links → Limited sets
+  pub events_spelled : SpellsSets (total c + 1) c.heads sets t.links → Limited sets
       → AxisSpelled c.processes events t.axis t.times t.marks → Spells c lists_of t
   events_spelled links few s =
       record {
@@ -144,19 +144,3 @@ module _ (c : Counts) (l : Lists) (t : Tables) (s : Spells c l t) where
             (λ h. inl (m ∙ ap bit h)));
         zero_mark = ap (λ (k : List ℕ). get_or k 0 0) s.marks;
       }
-
--- ---- the judge of tables
-
-pub tables_sound : (c : Counts) (t : Tables) → Lengths c t → tables_fine c t ≡ true → WellFormed c t
-unfolding tables_fine
-tables_sound c t len e =
-    let b = both (links_fine (total c + 1) c.heads t.links) (axis_fine c.processes t.axis t.times t.marks) e in
-    let l = links_sound (total c + 1) c.heads t.links (omega arith) len.links_is b.0 in
-    let a = axis_sound c.processes t.axis t.times t.marks len.axis_is b.1 in
-    (lists_of c t len l.0 a.0, events_spelled c t len l.0 a.0 l.1 l.2 a.1)
-
-pub tables_complete : (c : Counts) (t : Tables) → WellFormed c t → tables_fine c t ≡ true
-unfolding tables_fine
-tables_complete c t (l, s) =
-    sym (and_on _ _ _ (links_complete (total c + 1) c.heads t.links l.sets (omega arith) s.links s.limited)
-    (sym (axis_complete c.processes t.axis t.times t.marks (places c l.notices) (axis_spelled c l t s))))

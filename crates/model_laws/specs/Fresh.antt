@@ -12,7 +12,8 @@ use Rattle.ring_laws.specs.Lists.{ahead, decide, zeros, clash}
 use Rattle.ring_laws.specs.Rings.{Link}
 use Rattle.ring_laws.specs.Table.{self_linked, linked_before}
 use Rattle.ring_laws.specs.Stores.{sucs, pres, suc_at}
-use Rattle.ring_laws.specs.Spell.{spells_before, spells_cong}
+use Rattle.ring_laws.specs.Spell.{spells_cong}
+use Rattle.ring_laws.proofs.Spell.{spells_before}
 use Rattle.ring_laws.specs.Empty.{spells_empty, length_zeros, get_or_zeros, self_length, self_s, self_p, other_s, other_p}
 use Rattle.model.specs.declared.Counts.{Counts}
 use Rattle.model.specs.declared.Refusal.{Refusal}

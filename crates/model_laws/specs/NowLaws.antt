@@ -23,41 +23,17 @@ pub splits : (ns : List Notice) → 0 < length ns → Split ns
 splits [] l = absurd (not-suc-le-zero l)
 splits (n ∷ k) l = record { head = n; rest = k; is = refl }
 
-first_next : (c : Counts) (S P : ℕ → ℕ) (h e : ℕ) (ns : List Notice) → 0 < length ns → Chain S P h (places c ns) e
+pub first_next : (c : Counts) (S P : ℕ → ℕ) (h e : ℕ) (ns : List Notice) → 0 < length ns → Chain S P h (places c ns) e
     → S h ≡ (first ns).who - c.heads
 first_next c S P h e [] s ch = absurd (not-suc-le-zero s)
 first_next c S P h e (n ∷ ns) s ch = ch.0.next
 
-first_due : (ns : List Notice) → 0 < length ns → due_of (first ns).who ns ≡ (first ns).due
+pub first_due : (ns : List Notice) → 0 < length ns → due_of (first ns).who ns ≡ (first ns).due
 first_due [] s = absurd (not-suc-le-zero s)
 first_due (n ∷ ns) s = rw (eq-eqb n.who n.who refl)
 
-first_process_lem : (c : Counts) (ns : List Notice) → 0 < length ns
+pub first_process_lem : (c : Counts) (ns : List Notice) → 0 < length ns
     → ((x : ℕ) → In x (whos ns) → (c.heads < x) × (x ≤ c.heads + c.processes))
     → (c.heads < (first ns).who) × ((first ns).who ≤ c.heads + c.processes)
 first_process_lem c [] s f = absurd (not-suc-le-zero s)
 first_process_lem c (n ∷ ns) s f = f n.who (inl refl)
-
-module _ (c : Counts) (l : Lists) (t : Tables) (s : Spells c l t) where
-  pub place_now : first_of (half c) t.axis ≡ current l - c.heads
-  place_now =
-      ap (λ (i : ℕ). next_place t.axis i) (omega arith)
-      ∙ sym (suc_at (half c) t.axis (c.processes + 1) (omega arith))
-      ∙ first_next c (sucs (half c) t.axis) (pres (half c) t.axis) (c.processes + 1) (c.processes + 1) l.notices s.some
-      (s.axis.rings.ring (c.processes + 1) (axis_head_lem c.processes))
-
-  pub current_process : (c.heads < current l) × (current l ≤ c.heads + c.processes)
-  current_process = first_process_lem c l.notices s.some (notice_process c l t s)
-
-  pub current_now : linkage_at c (first_of (half c) t.axis) ≡ current l
-  current_now = omega (arith, place_now, current_process)
-
-  pub time_now : time_of (half c) t.axis t.times ≡ time l
-  time_now =
-      let p = current_process in
-      let back : c.heads + (current l - c.heads) ≡ current l = omega (arith, p) in
-      ap (λ (i : ℕ). get_or t.times i 0) place_now
-      ∙ table_at (λ p. due_of (c.heads + p) l.notices) c.processes t.times s.times (current l - c.heads) (omega (arith, p))
-      (omega (arith, p))
-      ∙ ap (λ (x : ℕ). due_of x l.notices) back
-      ∙ first_due l.notices s.some

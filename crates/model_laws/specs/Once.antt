@@ -4,8 +4,9 @@ use Rattle.std.proofs.Common.{arith, leb-false}
 use Rattle.ring_laws.specs.Lists.{In}
 use Rattle.ring_laws.specs.Distinct.{Dist, joined}
 use Rattle.ring_laws.specs.Stores.{sucs, pres}
-use Rattle.ring_laws.specs.Rows.{Rows, rows_dist, rows_busy}
-use Rattle.ring_laws.specs.Fine.{rings_rows}
+use Rattle.ring_laws.specs.Rows.{Rows}
+use Rattle.ring_laws.proofs.Rows.{rows_dist, rows_busy}
+use Rattle.ring_laws.proofs.Fine.{rings_rows}
 use Rattle.ring_laws.specs.Tabulate.{length_table, has, bit}
 use Rattle.model.specs.declared.Counts.{Counts}
 use Rattle.model.specs.Counts.{Allowed, total}

@@ -9,35 +9,6 @@ use Rattle.model.specs.declared.verdict.Verdict.{Verdict}
 use Rattle.model.specs.declared.verdict.Verdict.TheVariants.{Fine, Refused}
 use Rattle.model_laws.specs.Judge.{positions_fine, positions_judged}
 
-module _ (R : ℕ) (positions : List ℕ) where
-  pub positions_zero : positions_fine R positions 0 ≡ eqb (get_or positions 0 0) 0
-  unfolding positions_fine
-  positions_zero = refl
-
-  pub positions_past : (i : ℕ) → R < get_or positions (suc i) 0 → positions_fine R positions (suc i) ≡ false
-  unfolding positions_fine
-  positions_past i l = rw (lt-ltb R (get_or positions (suc i) 0) l)
-
-  pub positions_on : (i : ℕ) → get_or positions (suc i) 0 ≤ R → positions_fine R positions (suc i) ≡ positions_fine R positions i
-  unfolding positions_fine
-  positions_on i l = rw (le-ltb R (get_or positions (suc i) 0) l)
-
-  pub positions_sound : (p : ℕ) → positions_fine R positions p ≡ true → (get_or positions 0 0 ≡ 0) × ((y : ℕ) → y ≤ p → get_or positions y 0 ≤ R)
-  positions_sound zero e =
-      let z : get_or positions 0 0 ≡ 0 = eqb-true (get_or positions 0 0) 0 (sym positions_zero ∙ e) in
-      (z, λ y l. let q : y ≡ 0 = omega arith in omega (arith, ap (λ (j : ℕ). get_or positions j 0) q))
-  positions_sound (suc p) e =
-      below R (get_or positions (suc p) 0)
-      (λ l. clash (sym (positions_past p l) ∙ e))
-      (λ l.
-      let r = positions_sound p (sym (positions_on p l) ∙ e) in
-      (r.0, λ y b. decide y (suc p) (λ q. omega (arith, ap (λ (j : ℕ). get_or positions j 0) q)) (λ n. r.1 y (omega arith))))
-
-  pub positions_complete : (p : ℕ) → get_or positions 0 0 ≡ 0 → ((y : ℕ) → y ≤ p → get_or positions y 0 ≤ R)
-      → positions_fine R positions p ≡ true
-  positions_complete zero z f = positions_zero ∙ eq-eqb (get_or positions 0 0) 0 z
-  positions_complete (suc p) z f = positions_on p (f (suc p) (omega arith)) ∙ positions_complete p z (λ y l. f y (omega arith))
-
 -- ---- the theorem, in both directions
 
 -- "place 0 zero, each at most R"
@@ -64,23 +35,3 @@ pub record PositionsSay (c : Counts) (R : ℕ) (positions : List ℕ) (v : Verdi
   pub one : length positions ≢ c.processes + 1 → v ≡ Refused Size
   pub two : length positions ≡ c.processes + 1 → (Positions c R positions → ⊥) → v ≡ Refused Malformed
   pub fine_only : v ≡ Fine → (length positions ≡ c.processes + 1) × Positions c R positions
-
-pub positions_say : (c : Counts) (R : ℕ) (positions : List ℕ) → PositionsSay c R positions (positions_judged c R positions)
-positions_say c R positions =
-    record {
-      fine = λ e w. judged_fine c R positions e (positions_complete R positions c.processes w.zero_is w.in_sheet);
-      one = λ n. judged_length c R positions n;
-      two = λ e n.
-          test (positions_fine R positions c.processes)
-          (λ f. absurd (n (stands f)))
-          (λ f. judged_not c R positions e f);
-      fine_only = λ e.
-          decide (length positions) (c.processes + 1)
-          (λ l. test (positions_fine R positions c.processes)
-          (λ f. (l, stands f))
-          (λ f. let q : Refused Malformed ≡ Fine = sym (judged_not c R positions l f) ∙ e in let z : false ≡ true = cc in clash z))
-          (λ n. let q : Refused Size ≡ Fine = sym (judged_length c R positions n) ∙ e in let z : false ≡ true = cc in clash z);
-    }
-  where
-    stands : positions_fine R positions c.processes ≡ true → Positions c R positions
-    stands f = let r = positions_sound R positions c.processes f in record { zero_is = r.0; in_sheet = r.1 }

@@ -6,7 +6,7 @@ use Rattle.ring_laws.specs.Lists.{In, below, inside}
 use Rattle.ring_laws.specs.Chain.{Chain, forth}
 use Rattle.ring_laws.specs.Table.{Sound}
 use Rattle.ring_laws.specs.Stores.{sucs, pres, suc_at}
-use Rattle.ring_laws.specs.Spell.{spells_sound}
+use Rattle.ring_laws.proofs.Spell.{spells_sound}
 use Rattle.model.specs.declared.Counts.{Counts}
 use Rattle.model.specs.declared.verdict.Verdict.TheVariants.{Fine}
 use Rattle.model.specs.Counts.{Allowed, total, limit}
@@ -17,7 +17,6 @@ use Rattle.model_laws.specs.Now.{AxisSound, half, first_of, next_place, prev_pla
 use Rattle.model_laws.specs.Judge.{judged}
 use Rattle.axis_laws.specs.AxisRing.{axis_head_lem, axis_event}
 use Rattle.model_laws.specs.Formed.{axis_spelled}
-use Rattle.model_laws.specs.Verdict.{judged_says}
 
 pub record Ready (c : Counts) (t : Tables) : Type 0 where
   pub allowed : Allowed c
@@ -70,9 +69,3 @@ formed_ready c l t z w =
         × (sucs (c.processes + 2) t.axis (c.processes + 1) ≤ c.processes)
     first [] p q g = absurd (not-suc-le-zero p)
     first (z ∷ k) p q g = rw q.0.next (g z (inl refl))
-
--- a verdict that is fine hands the core functions what they need
-pub judged_ready : (c : Counts) (t : Tables) → judged c t ≡ Fine → Ready c t
-judged_ready c t e =
-    let b = (judged_says c t).fine_only e in
-    formed_ready c b.1.0 t b.0 b.1.1

@@ -14,7 +14,7 @@ use Rattle.ring_laws.specs.Lists.{decide, test}
 use Rattle.ring_laws.specs.Stores.{sucs, pres, suc_at}
 use Rattle.ring_laws.specs.Judge.{Space, WalkStep, Bounded, allowed, step, walk, closed, idle, busy, rings_fine}
 use Rattle.ring_laws.specs.RingWalk.{allowed_mean, step_not, step_one_way, step_is, walk_broken, walk_back, walk_short, walk_on}
-use Rattle.ring_laws.specs.Busy.{idle_not, idle_last, busy_none, busy_idle, busy_more}
+use Rattle.ring_laws.proofs.Busy.{idle_not, idle_last, busy_none, busy_idle, busy_more}
 use Rattle.ring_laws.specs.Rows.{closed_none, closed_broken, closed_long, closed_on}
 use Rattle.ring_laws.specs.Fine.{fine_not, fine_is}
 

@@ -14,6 +14,5 @@ pub mod Empty
 pub mod Sound
 pub mod Judge
 pub mod RingWalk
-pub mod Busy
 pub mod Rows
 pub mod Fine

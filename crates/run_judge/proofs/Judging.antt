@@ -12,7 +12,8 @@ use Rattle.model.specs.declared.Counts.{Counts}
 use Rattle.model.specs.declared.Refusal.TheVariants.{Size, Malformed}
 use Rattle.model.specs.declared.verdict.Verdict.TheVariants.{Fine, Refused}
 use Rattle.model_laws.specs.Judge.{positions_fine, positions_judged}
-use Rattle.model_laws.specs.Positions.{positions_zero, positions_past, positions_on, judged_length, judged_not, judged_fine}
+use Rattle.model_laws.specs.Positions.{judged_length, judged_not, judged_fine}
+use Rattle.model_laws.proofs.Positions.{positions_zero, positions_past, positions_on}
 
 pub record Downto (R : ℕ) (positions : List ℕ) (p i : ℕ) : Type 0 where
   pub few : i ≤ p

@@ -9,8 +9,8 @@ use Rattle.model.specs.declared.Refusal.TheVariants.{Size}
 use Rattle.model.specs.Counts.{in_limits, both}
 use Rattle.model.specs.declared.verdict.Verdict.TheVariants.{Fine, Refused as Judged}
 use Rattle.model_laws.specs.Judge.{lengths_fine, judged, positions_judged}
-use Rattle.model_laws.specs.Verdict.{judged_says, mean_sized}
-use Rattle.model_laws.specs.Positions.{positions_say}
+use Rattle.model_laws.proofs.Verdict.{judged_says, mean_sized}
+use Rattle.model_laws.proofs.Positions.{positions_say}
 use Rattle.sheet.specs.declared.header.Checked.{Checked}
 use Rattle.sheet.specs.declared.header.Checked.TheVariants.{Accepted}
 use Rattle.sheet.specs.Sheet.{counts_of, records_of, Sheet, sheet_of}
@@ -24,7 +24,7 @@ use Rattle.machine.specs.Run as machine
 use Rattle.run_laws.specs.Run.{RunTables, run_judged, RanOn, judged_run, checked_run, run_on}
 use Rattle.run_laws.specs.Standing.{Stands, Standing, sized, positions_length, words_length}
 use Rattle.run_laws.specs.Refine.{bytes_of}
-use Rattle.run_laws.specs.TurnsFollow.{lines_bytes, TurnsAre, turns_are}
+use Rattle.run_laws.specs.TurnsFollow.{lines_bytes}
 use Rattle.run_laws.specs.Judging.{trace_size, tables_fine_lem}
 
 -- a call, lent the buffer b, that the plain machine makes as r
@@ -37,80 +37,11 @@ pub record Agrees (bytes b : List ℕ) (r : machine.Ran) (o : RanOn) : Type 0 wh
   -- "The tables are the well-formed ones that spell the machine's sets, notices and marks; positions, accumulators .. are the machine's"
   pub tables : Stands (counts_of bytes) (records_of bytes) r.machine o.run
 
-lines_length : (ls : List Line) → length (lines_bytes ls) ≡ line_size * length ls
+pub lines_length : (ls : List Line) → length (lines_bytes ls) ≡ line_size * length ls
 lines_length [] = refl
 lines_length (l ∷ ls) = length-append (bytes_of l) (lines_bytes ls)
     ∙ omega (arith, length_line l.time l.process l.rec, lines_length ls)
 
-put_first_lem : (b xs : List ℕ) (n : ℕ) → length xs ≡ n → put b 0 xs ≡ xs ++ drop n b
+pub put_first_lem : (b xs : List ℕ) (n : ℕ) → length xs ≡ n → put b 0 xs ≡ xs ++ drop n b
 unfolding put
 put_first_lem b xs n e = let q : 0 + length xs ≡ n = omega arith in ap (λ (k : ℕ). xs ++ drop k b) q
-
-module _ (bytes : List ℕ) (ok : accepted bytes ≡ true) (m : Machine) (u : RunTables)
-    (g : Stands (counts_of bytes) (records_of bytes) m u) where
-  abbrev c : Counts
-  c = counts_of bytes
-
-  abbrev s : Sheet
-  s = sheet_of bytes
-
-  stood : Standing c bytes u
-  stood = record { ok = ok; counts = refl; machine = m; stands = g }
-
-  -- ---- such a run passes the judge
-
-  lengths : true ≡ lengths_fine c u.model
-  lengths = sym (both (in_limits c) (lengths_fine c u.model) (mean_sized c u.model (sized c bytes u stood))).1
-
-  tables : Fine ≡ judged c u.model
-  tables = sym ((judged_says c u.model).fine (sized c bytes u stood) (m.lists, g.model))
-
-  positions : Fine ≡ positions_judged c (records_of bytes) u.positions
-  positions =
-      sym ((positions_say c (records_of bytes) u.positions).fine (positions_length c bytes u stood)
-      (record {
-        zero_is = ap (λ (l : List ℕ). get_or l 0 0) g.positions;
-        in_sheet = λ y b. subst (λ (l : List ℕ). get_or l y 0 ≤ records_of bytes) (sym g.positions) (at y);
-      }))
-    where
-      at : (y : ℕ) → get_or (0 ∷ m.positions) y 0 ≤ records_of bytes
-      at zero = omega arith
-      at (suc i) = g.positions_in i
-
-  pub judged_short : (len : ℕ) → len ≤ trace_limit → run_judged c (records_of bytes) u len ≡ Fine
-  judged_short len l =
-      sym (tables_fine_lem c (records_of bytes) u len true lengths refl c.processes refl (positions_length c bytes u stood)
-      (words_length c bytes u stood) l Fine Fine tables refl positions)
-
-  pub judged_long : (len : ℕ) → trace_limit < len → run_judged c (records_of bytes) u len ≡ Judged Size
-  judged_long len l =
-      sym (trace_size c (records_of bytes) u len true lengths refl c.processes refl (positions_length c bytes u stood)
-      (words_length c bytes u stood) l)
-
-  -- ---- the call
-
-  is_accepted : checked bytes ≡ Accepted (header_of bytes)
-  unfolding checked
-  is_accepted = rw ok
-
-  pub by_judge : (b : List ℕ) → run_on bytes u b ≡ judged_run (run_judged c (records_of bytes) u (length b)) c bytes u b
-  unfolding run_on
-  by_judge b = ap (λ (k : Checked). checked_run k bytes u b) is_accepted
-
-  from_turns : (b : List ℕ) (r : machine.Ran) (o : RanOn) → TurnsAre bytes ok 0 b r o → Agrees bytes b r o
-  from_turns b r o t =
-      record {
-        lines = omega (arith, t.lines);
-        end = t.end;
-        trace = t.trace ∙ put_first_lem b (lines_bytes r.lines) (line_size * length r.lines) (lines_length r.lines);
-        tables = t.run;
-      }
-
-  pub call_agrees : (b : List ℕ) → Agrees bytes b (call s (length b) m) (run_on bytes u b)
-  unfolding call
-  call_agrees b =
-      below trace_limit (length b)
-      (λ l. rw (by_judge b, judged_long (length b) l, lt-leb (length b) trace_limit l)
-      (record { lines = refl; end = refl; trace = refl; tables = g }))
-      (λ l. rw (by_judge b, judged_short (length b) l, le-leb (length b) trace_limit l)
-      (from_turns b _ _ (turns_are bytes ok (length b / line_size) 0 m u b g (omega arith))))

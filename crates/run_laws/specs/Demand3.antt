@@ -16,12 +16,12 @@ use Rattle.machine.specs.Run as machine
 use Rattle.machine_laws.specs.Uncut.{Joined, calls_joined}
 use Rattle.machine.specs.History.{Tie, scheduled, notices_at}
 use Rattle.machine_laws.specs.GoesFirst.{GoesFirst}
-use Rattle.run_laws.specs.MachineLaws.{Laws, machine_laws}
+use Rattle.run_laws.specs.MachineLaws.{Laws}
 use Rattle.run_laws.specs.Run.{RunTables, run_judged, RanOn, run_on}
 use Rattle.run_laws.specs.Judging.{judged_fine, passed_standing}
 use Rattle.run_laws.specs.Standing.{Stands}
 use Rattle.run_laws.specs.Fresh.{fresh_run, fresh_stands}
-use Rattle.run_laws.specs.CallFollows.{Agrees, call_agrees}
+use Rattle.run_laws.specs.CallFollows.{Agrees}
 
 -- the engine's calls, one for each buffer: "each has a trace buffer of its own and the run as the last left it"
 unfoldable pub runs : List ℕ → RunTables → List (List ℕ) → List RanOn
@@ -54,34 +54,6 @@ pub record Demand3 (bytes : List ℕ) (buffers : List (List ℕ)) : Type 0 where
   -- and ties stand in the stated order
   pub laws : (n : ℕ) → Laws (sheet_of bytes) n
 
--- ---- the theorem
-
-module _ (bytes : List ℕ) (ok : accepted bytes ≡ true) where
-  all_agree : (bs : List (List ℕ)) (m : Machine) (u : RunTables) → Stands (counts_of bytes) (records_of bytes) m u
-      → AllAgree bytes bs (calls (sheet_of bytes) m (lengths bs)) (runs bytes u bs)
-  unfolding calls runs
-  all_agree [] m u g = tt
-  all_agree (b ∷ bs) m u g =
-      let a = call_agrees bytes ok m u g b in
-      (a, all_agree bs (call (sheet_of bytes) (length b) m).machine (run_on bytes u b).run a.tables)
-
-  pub demand3 : (buffers : List (List ℕ)) → Demand3 bytes buffers
-  demand3 buffers =
-      record {
-        begins = fresh_stands bytes ok;
-        agree = all_agree buffers (fresh (sheet_of bytes)) (fresh_run (counts_of bytes) bytes) (fresh_stands bytes ok);
-        joined_lines = calls_joined (sheet_of bytes) (fresh (sheet_of bytes)) (lengths buffers);
-        laws = machine_laws bytes ok;
-      }
-
--- a call from any tables that the judge passes, whoever wrote them, is the call of the machine that they spell
-pub any_run : (bytes : List ℕ) → accepted bytes ≡ true → (u : RunTables) (b : List ℕ)
-    → run_judged (counts_of bytes) (records_of bytes) u (length b) ≡ Fine
-    → (m : Machine) × Stands (counts_of bytes) (records_of bytes) m u × Agrees bytes b (call (sheet_of bytes) (length b) m) (run_on bytes u b)
-any_run bytes ok u b e =
-    let s = passed_standing bytes (counts_of bytes) ok refl u (length b) (judged_fine (counts_of bytes) (records_of bytes) u (length b) e) in
-    (s.machine, s.stands, call_agrees bytes ok s.machine u s.stands b)
-
 -- ---- the auditor's two questions
 
 -- When two things fall due at one tick, which goes first, always? After n steps a and b have notices, and b's was scheduled later
@@ -90,15 +62,6 @@ pub record WhichFirst (s : Sheet) (n a b : ℕ) : Type 0 where
   pub tie : Tie s n a b (scheduled s n b)
   -- and to stand before is to go first
   pub goes_first : GoesFirst s n
-
-pub which_first : (bytes : List ℕ) → accepted bytes ≡ true → (n a b : ℕ) → In a (whos (notices_at (sheet_of bytes) n))
-    → In b (whos (notices_at (sheet_of bytes) n))
-    → (scheduled (sheet_of bytes) n a).by < (scheduled (sheet_of bytes) n b).by → WhichFirst (sheet_of bytes) n a b
-which_first bytes ok n a b i j l = let w = machine_laws bytes ok n in record { tie = w.ties.tie a b i j l; goes_first = w.goes_first }
-
--- Can a crate stand in two queues and be counted twice? No link stands twice in the sets, all sets together, after any number of steps
-pub stands_once : (bytes : List ℕ) → accepted bytes ≡ true → (n : ℕ) → Nodup (joined (state (sheet_of bytes) n).lists.sets)
-stands_once bytes ok n = dist_nodup (joined (state (sheet_of bytes) n).lists.sets) (machine_laws bytes ok n).kept.links_once
 
 -- and tables that spell a machine are the only ones: two runs that are one machine's have the same words
 pub one_model : (bytes : List ℕ) (m : Machine) (u v : RunTables) → Stands (counts_of bytes) (records_of bytes) m u

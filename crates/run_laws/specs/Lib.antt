@@ -10,15 +10,12 @@ pub mod Run
 pub mod Performed
 pub mod Needs
 pub mod Reads
-pub mod Which
 pub mod Tried
 pub mod Arms
-pub mod Soon
 pub mod Performing
 pub mod Standing
 pub mod StepIs
 pub mod Refine
-pub mod StepFollows
 pub mod TurnsFollow
 pub mod Turning
 pub mod Counting
@@ -26,9 +23,6 @@ pub mod Running
 pub mod OneTurn
 pub mod Paused
 pub mod Stretching
-pub mod StretchEnds
-pub mod Between
-pub mod AnyTurn
 pub mod Judging
 pub mod RunIs
 pub mod CallFollows

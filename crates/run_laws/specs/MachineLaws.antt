@@ -24,7 +24,7 @@ use Rattle.machine.specs.History.{Stepwise, Ties, placing, notices_at}
 use Rattle.machine_laws.specs.HistoryLaw.{ties_of}
 use Rattle.machine_laws.specs.Invariant.{InRange, Invariant}
 use Rattle.machine_laws.specs.GoesFirst.{GoesFirst, goes_first}
-use Rattle.run_laws.specs.MachineTurns.{Going, turn_going, turn_stepwise, turn_forward}
+use Rattle.run_laws.specs.MachineTurns.{Going}
 
 -- after n steps
 pub record Laws (s : Sheet) (n : ℕ) : Type 0 where
@@ -61,58 +61,3 @@ module _ (bytes : List ℕ) (is : accepted bytes ≡ true) where
             subst (λ (n : ℕ). Ranged (record { counts = counts_of bytes; records = n }) (record_of (sheet_of bytes) r)) (sym R)
             (subst (Ranged (header_of bytes)) (sym (record_listed bytes _ r a c)) (record_in bytes is r a c));
       }
-
--- ---- what a run needs holds at first and after every step
-
-module _ (s : Sheet) (r : InRange s) where
-  going : (n : ℕ) → Going s (state s n)
-  unfolding uncut fresh
-  going zero =
-      record {
-        spelled = (fresh_tables s.counts, fresh_spells s.counts r.allowed);
-        positions_all = r.starts_all;
-        positions_in = r.starts_in_lem;
-        triples_all = length-replicate 64 zero_accumulator;
-        required = fresh_each 64 0;
-      }
-  going (suc n) = turn_going s r (state s n) (going n)
-
-  steps : (n : ℕ) → Stepwise (placing s (state s n)) (notices_at s n) (notices_at s (suc n))
-  unfolding uncut
-  steps n = turn_stepwise s r (state s n) (going n)
-
-  forward : (n : ℕ) → time (state s n).lists ≤ time (state s (suc n)).lists
-  unfolding uncut
-  forward n = turn_forward s r (state s n) (going n)
-
-  -- lists that well-formed tables spell are as Kept says
-  pub going_kept : (m : Machine) → Going s m → Invariant s m
-  going_kept m g =
-      let c = s.counts in
-      let t = g.spelled.0 in
-      let w = g.spelled.1 in
-      record {
-        links_once = links_once c m.lists t w;
-        only_links = set_links c m.lists t w;
-        limited = w.limited;
-        notice_each = notice_each c m.lists t w;
-        only_processes = notice_process c m.lists t w;
-        some = w.some;
-        in_order = w.in_order;
-        within = w.within;
-        ended_idle = λ x i. (w.ended x i).3;
-        ended_other = λ x i. (w.ended x i).2;
-        sets_all = w.links.all;
-        positions_all = g.positions_all;
-        positions_in = g.positions_in;
-        triples_all = g.triples_all;
-        required = g.required;
-      }
-
-  laws : (n : ℕ) → Laws s n
-  laws n =
-      let k = going_kept (state s n) (going n) in
-      record { kept = k; forward = forward n; ties = ties_of s steps n; goes_first = goes_first s n k.notice_each }
-
-pub machine_laws : (bytes : List ℕ) → accepted bytes ≡ true → (n : ℕ) → Laws (sheet_of bytes) n
-machine_laws bytes is n = laws (sheet_of bytes) (accepted_range bytes is) n

@@ -11,10 +11,10 @@ use Rattle.model_laws.specs.Tables.{Tables, Lists, After, Sized, Spells}
 use Rattle.model_laws.specs.Called.{called}
 use Rattle.model_laws.specs.Result.{Follows, done, refused, Result}
 use Rattle.model_laws.specs.Now.{time}
-use Rattle.simset_laws.specs.Meaning.{called_is, set_follows}
+use Rattle.simset_laws.proofs.Meaning.{called_is, set_follows}
 use Rattle.simulation_laws.specs.Plain as plain
 use Rattle.simulation_laws.specs.Calls.{hold_step, passivate_step, cancel_step, timed_step, finish_step, wait_step, on_sqs, on_marks, on_sets}
-use Rattle.simulation_laws.specs.Meaning.{hold_means, passivate_means, wait_means, cancel_means, timed_means, finish_means}
+use Rattle.simulation_laws.proofs.Meaning.{hold_means, passivate_means, wait_means, cancel_means, timed_means, finish_means}
 use Rattle.accum_laws.specs.declared.Updated.{Updated}
 use Rattle.accum_laws.specs.declared.Updated.TheVariants.{To, Refused as NotUpdated}
 use Rattle.accum_laws.specs.Update.{updated_of}
@@ -24,7 +24,6 @@ use Rattle.machine.specs.Machine.{Machine}
 use Rattle.machine.specs.Calls.{ListCall, on_set, hold, passivate, wait, cancel, activate, if_empty, finish, Call, on_list, accum, lists_after}
 use Rattle.machine.specs.Calls.{lifted, storing, perform}
 use Rattle.run_laws.specs.OnTables.{tables_after, Carried, carried_out}
-use Rattle.run_laws.specs.Resolving.{time_at}
 
 -- ---- the calls on lists
 
@@ -51,31 +50,3 @@ module _ (c : Counts) (l : Lists) (t : Tables) (w : Sized c t) (s : Spells c l t
 abbrev pub FollowsRun : Counts → Tables → List ℤ → Result Machine → Carried → Type 0
 FollowsRun c t v (refused r) a = (a.answer ≡ Refused r) × (a.tables ≡ t) × (a.words ≡ v)
 FollowsRun c t v (done m) a = (a.answer ≡ Done) × Spells c m.lists a.tables × (a.words ≡ flat m.triples)
-
-module _ (c : Counts) (m : Machine) (t : Tables) (w : Sized c t) (s : Spells c m.lists t) where
-  abbrev words : List ℤ
-  words = flat m.triples
-
-  pub perform_follows : (k : Call) → FollowsRun c t words (perform c k m) (carried_out c k t words)
-  unfolding perform carried_out updated_at
-  perform_follows (on_list k) = go (lists_after c k m.lists) (lists_follow c m.lists t w s k)
-    where
-      go : (r : Result Lists) → Follows c t r (tables_after c k t)
-          → FollowsRun c t words (lifted m r) (record {
-            tables = (tables_after c k t).tables;
-            words = words;
-            answer = (tables_after c k t).answer;
-          })
-      go (refused r) a = (a.0, a.1, refl)
-      go (done l) a = (a.0, a.1, refl)
-  perform_follows (accum k d) =
-      subst (λ (u : Changed). FollowsRun c t words (storing m k (updated_of (numbered k m.triples) (time m.lists) d))
-      (record { tables = t; words = u.words; answer = u.answer }))
-      (sym (ap (λ (now : ℕ). updated_in k now d words) (time_at c m.lists t w s) ∙ flat_updated k (time m.lists) d m.triples))
-      (go (updated_of (numbered k m.triples) (time m.lists) d))
-    where
-      go : (u : Updated)
-          → FollowsRun c t words (storing m k u)
-          (record { tables = t; words = flat (list_after u k m.triples).list; answer = (list_after u k m.triples).answer })
-      go (To v) = (refl, s, refl)
-      go (NotUpdated q) = (refl, refl, refl)

@@ -10,7 +10,7 @@ use Rattle.ring_laws.specs.Stores.{sucs, pres, suc_at}
 use Rattle.model.specs.declared.Counts.{Counts}
 use Rattle.model.specs.Counts.{total, is_head}
 use Rattle.model_laws.specs.Tables.{Tables, Lists, Sized, set_head, members_of, SpellsSets, Spells}
-use Rattle.model_laws.specs.NowLaws.{current_now, time_now}
+use Rattle.model_laws.proofs.NowLaws.{current_now, time_now}
 use Rattle.model_laws.specs.Now.{time, current, time_of, half}
 use Rattle.simset_laws.specs.Procedures as procedures
 use Rattle.simset_laws.specs.Sets.{no_links}
@@ -24,7 +24,7 @@ use Rattle.run_laws.specs.OnTables.{current_at, first_at, process_at, member_at,
 use Rattle.run_laws.specs.Walking.{process_of}
 
 -- the successor of a head is its first member, none where it has none
-first_of : (m H : ℕ) (sets : List (List ℕ)) (t : List ℕ) → SpellsSets m H sets t → (h : ℕ) → Head m (set_head H) h
+pub first_of : (m H : ℕ) (sets : List (List ℕ)) (t : List ℕ) → SpellsSets m H sets t → (h : ℕ) → Head m (set_head H) h
     → procedures.suc_of H h t ≡ first_in (members_of sets h)
 first_of m H sets t s h a = go (members_of sets h) (s.spelled.rings.ring h a)
     (λ y i. leb-false y H (s.spelled.rings.only h y a i).isn't)
@@ -32,47 +32,3 @@ first_of m H sets t s h a = go (members_of sets h) (s.spelled.rings.ring h a)
     go : (l : List ℕ) → Chain (sucs m t) (pres m t) h l h → ((y : ℕ) → In y l → H < y) → procedures.suc_of H h t ≡ first_in l
     go [] c f = ap (procedures.link_or H) (sym (suc_at m t h a.within) ∙ c.next) ∙ or_none_lem H h (leb-true h H a.is)
     go (z ∷ l) c f = ap (procedures.link_or H) (sym (suc_at m t h a.within) ∙ c.0.next) ∙ or_link H z (f z (inl refl))
-
-module _ (c : Counts) (l : Lists) (t : Tables) (w : Sized c t) (s : Spells c l t) where
-  pub current_at_lem : current_at c t.axis ≡ current l
-  current_at_lem = current_now c l t s
-
-  pub time_at : time_of (half c) t.axis t.times ≡ time l
-  time_at = time_now c l t s
-
-  module _ (h : ℕ) (some : 1 ≤ h) (most : h ≤ c.heads) where
-    head : Head (total c + 1) (set_head c.heads) h
-    head = set_head_lem (total c + 1) c.heads h some most (omega arith)
-
-    pub first_at_lem : first_at c t.links h ≡ first_in (members_of l.sets h)
-    first_at_lem = first_of (total c + 1) c.heads l.sets t.links s.links h head
-
-    -- request 2.4: the walk along the ring finds what the list says
-    pub process_at_lem : process_at c t.links h ≡ first_process c (members_of l.sets h)
-    process_at_lem = process_of c l.sets t.links s.links h head
-
-    pub member_at_lem : (op : ℕ) → member_at c (takes_process op) t.links h ≡ member_meant c op (members_of l.sets h)
-    member_at_lem op = test (takes_process op) (λ e. rw e process_at_lem) (λ e. rw e first_at_lem)
-
-  -- a number below 65,536 stands for itself
-  pub operand_plain : (op v : ℕ) → v < operand_base
-      → (operand_at c (takes_process op) t.links t.axis v ≡ v) × (operand_of c op l v ≡ v)
-  unfolding operand_with operand_of
-  operand_plain op v h = rw (lt-ltb v operand_base h) (refl, refl)
-
-  pub operand_at_lem : (op v : ℕ) → is_operand c v ≡ true → operand_at c (takes_process op) t.links t.axis v ≡ operand_of c op l v
-  unfolding operand_with operand_of
-  operand_at_lem op v o =
-      test (ltb v operand_base)
-      (λ e. rw e)
-      (λ e. test (eqb v operand_base)
-      (λ q. rw (e, q) current_at_lem)
-      (λ q. let h = operand_high c w.allowed v o (above v (ltb-false v operand_base e) (eqb-false v operand_base q)) in
-      rw (e, q) (member_at_lem (v - operand_base) h.0 h.1 op)))
-    where
-      above : (v : ℕ) → operand_base ≤ v → (v ≡ operand_base → ⊥) → operand_base < v
-      above v a b = omega arith
-
-  -- whether head x is empty
-  pub empty_at : (x : ℕ) → is_head c x ≡ true → procedures.empty_of x t.links ≡ no_links (members_of l.sets x)
-  empty_at x e = empty_says (total c + 1) c.heads l.sets t.links s.links (omega arith) x (head_of_lem c x e)

@@ -5,7 +5,7 @@ use Rattle.ring_laws.specs.Lists.{In, below, test}
 use Rattle.ring_laws.specs.Chain.{Chain}
 use Rattle.ring_laws.specs.Rings.{Head, on_place}
 use Rattle.ring_laws.specs.Stores.{sucs, pres, suc_at}
-use Rattle.ring_laws.specs.Spell.{spells_few}
+use Rattle.ring_laws.proofs.Spell.{spells_few}
 use Rattle.model.specs.declared.Counts.{Counts}
 use Rattle.model.specs.Counts.{is_process, total}
 use Rattle.model_laws.specs.Tables.{set_head, members_of, SpellsSets}

@@ -10,7 +10,7 @@ use Rattle.machine.specs.Run.{line_size}
 use Rattle.run_laws.specs.declared.Ran.{Ran}
 use Rattle.run_laws.specs.Run.{RunTables, RanOn, run_on}
 use Rattle.run_laws.specs.Standing.{Standing, its_judged, in_positions}
-use Rattle.run_laws.specs.GoesOn.{run_stands, run_room}
+use Rattle.run_laws.proofs.GoesOn.{run_stands, run_room}
 
 -- the tables and the answer
 pub record PieceLeft : Type 0 where

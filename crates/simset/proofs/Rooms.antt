@@ -14,7 +14,8 @@ use Rattle.model.specs.declared.Counts.{Counts}
 use Rattle.model.specs.Counts.{total, most_members}
 use Rattle.simset_laws.specs.Walk.{head_at, head_found}
 use Rattle.simset_laws.specs.Full.{set_at, full_at, many, full_for, free_to, unknown}
-use Rattle.simset_laws.specs.BoundLaws.{Covers, covers_one, covers_same, covers_few, covers_none}
+use Rattle.simset_laws.specs.BoundLaws.{Covers, covers_few, covers_none}
+use Rattle.simset_laws.proofs.BoundLaws.{covers_one, covers_same}
 use Rattle.simset_laws.specs.Entering.{Tested}
 
 module _ (m H y : ℕ) (t : List ℕ) where

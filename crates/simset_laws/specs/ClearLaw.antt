@@ -8,7 +8,7 @@ use Rattle.ring_laws.specs.Chain.{Chain}
 use Rattle.ring_laws.specs.Rings.{Head, Link, Rings, rings_apart, rings_dist}
 use Rattle.ring_laws.specs.Table.{unlinked}
 use Rattle.ring_laws.specs.Stores.{sucs, pres, suc_at}
-use Rattle.ring_laws.specs.Spell.{spells_few}
+use Rattle.ring_laws.proofs.Spell.{spells_few}
 use Rattle.model_laws.specs.Tables.{set_head, members_of, SpellsSets}
 use Rattle.simset_laws.specs.Sets.{out_sets, clear_sets}
 use Rattle.simset_laws.specs.Procedures.{clearing, cleared}
@@ -58,7 +58,7 @@ module _ (m H : ℕ) (sets : List (List ℕ)) (t : List ℕ) (s : SpellsSets m H
           omega arith
 
 -- the fuel is at least the length of the list
-clear_list : (m H k : ℕ) (sets : List (List ℕ)) (t : List ℕ) (s : SpellsSets m H sets t) → H < m → (h : ℕ) (a : Head m (set_head H) h)
+pub clear_list : (m H k : ℕ) (sets : List (List ℕ)) (t : List ℕ) (s : SpellsSets m H sets t) → H < m → (h : ℕ) (a : Head m (set_head H) h)
     → (l : List ℕ) → members_of sets h ≡ l → length l ≤ k → SpellsSets m H (clear_sets h sets) (clearing m h k t)
 clear_list m H k sets t s b h a [] e f =
     let c = head_first m H sets t s b h a [] e in
@@ -80,9 +80,3 @@ clear_list m H (suc k) sets t s b h a (z ∷ l) e f =
     let rest = clear_list m H k (set sets (h - 1) l) (unlinked m z t) o b h a l now (omega arith) in
     rw (clearing_on m h k t (λ g. d.0 (subst (λ (j : ℕ). In j (members_of sets h)) (sym first ∙ g) in_h)), first)
     (rw (set-set sets (h - 1) l []) at rest)
-
-pub sets_cleared : (m H : ℕ) (sets : List (List ℕ)) (t : List ℕ) → SpellsSets m H sets t → H < m → (h : ℕ) → Head m (set_head H) h
-    → SpellsSets m H (clear_sets h sets) (cleared m h t)
-sets_cleared m H sets t s b h a =
-    rw (cleared_is m h t)
-    (clear_list m H m sets t s b h a (members_of sets h) refl (spells_few m (set_head H) (members_of sets) t s.spelled h a))

@@ -17,7 +17,7 @@ use Rattle.simset_laws.specs.Full.{set_at, many, full_for, free_to}
 use Rattle.simset_laws.specs.Calls.{Linked, linked_if, entered_if, or_none, out_step, clear_step}
 use Rattle.simset_laws.specs.Promise.{Moved, entry_not, entry_full, entered, party_fine}
 use Rattle.simset_laws.specs.Meaning.{link_of, head_of_lem}
-use Rattle.simset_laws.specs.BoundLaws.{Covers, Linking, covers_less, covers_few, covers_out, covers_clear}
+use Rattle.simset_laws.specs.BoundLaws.{Covers, Linking, covers_less, covers_few}
 
 -- a test with the answer that is wanted, after which the bounds hold with a member more in the set of head k
 pub record Tested (c : Counts) (k : ℕ) (links : List ℕ) (want : Bool) (bounds : List ℕ) (got : Bool) : Type 0 where
@@ -29,25 +29,6 @@ pub record Entered (c : Counts) (links : List ℕ) (want : Linked) (bounds : Lis
   pub moved : Moved (total c + 1) want got
   pub covers : Linking c links → Covers c 0 got.links bounds
 
--- ---- a call that enters a set: refused by a kind, by a full set, or done
-
-module _ (c : Counts) (links bounds u : List ℕ) (b f : Bool) (sound : Sound (total c + 1) links) where
-  pub entering_not : Covers c 0 links bounds → b ≡ false
-      → Entered c links (entered_if b f links u) bounds (record { links = links; answer = Refused Operand })
-  entering_not v e = record { moved = entry_not (total c + 1) links u b f sound e; covers = λ w. v }
-
-  module _ (k : ℕ) (r : Bool) (t : Tested c k links f bounds r) (fine : b ≡ true) where
-    pub entering_full : r ≡ true → Entered c links (entered_if b f links u) bounds (record { links = links; answer = Refused Full })
-    entering_full e =
-        record {
-          moved = entry_full (total c + 1) links u b f sound fine (sym t.is ∙ e);
-          covers = λ w. covers_less c k links bounds t.covers;
-        }
-
-    pub entering : r ≡ false → (v : List ℕ) → Made (total c + 1) u v → (v ≡ u → Linking c links → Covers c 0 v bounds)
-        → Entered c links (entered_if b f links u) bounds (record { links = v; answer = Done })
-    entering e v made w = record { moved = entered (total c + 1) links u b f v fine (sym t.is ∙ e) made; covers = w made.is }
-
 -- ---- the tests of a call that puts a link beside y: refused by a kind, by a full set, or fine
 
 abbrev pub entry_verdict : Bool → Bool → Verdict
@@ -55,7 +36,7 @@ entry_verdict true false = Fine
 entry_verdict true true = Not Full
 entry_verdict false f = Not Operand
 
-abbrev is_fine : Verdict → Bool
+abbrev pub is_fine : Verdict → Bool
 is_fine Fine = true
 is_fine (Not q) = false
 
@@ -68,51 +49,6 @@ pub record Beside (c : Counts) (k : ℕ) (links : List ℕ) (b f : Bool) (bounds
   pub is : got ≡ entry_verdict b f
   pub kept : Covers c 0 links bounds
   pub covers : got ≡ Fine → Covers c k links bounds
-
-module _ (c : Counts) (links bounds : List ℕ) (k : ℕ) (b f : Bool) where
-  pub beside_not : Covers c 0 links bounds → b ≡ false → Beside c k links b f bounds (Not Operand)
-  beside_not v e = record { is = rw e; kept = v; covers = λ q. clash (ap is_fine q) }
-
-  module _ (r : Bool) (t : Tested c k links f bounds r) (fine : b ≡ true) where
-    pub beside_full : r ≡ true → Beside c k links b f bounds (Not Full)
-    beside_full e =
-        record { is = rw (fine, sym t.is ∙ e); kept = covers_less c k links bounds t.covers; covers = λ q. clash (ap is_fine q) }
-
-    pub beside_fine : r ≡ false → Beside c k links b f bounds Fine
-    beside_fine e =
-        record { is = rw (fine, sym t.is ∙ e); kept = covers_less c k links bounds t.covers; covers = λ q. t.covers }
-
-  pub beside_may : (v : Verdict) → Beside c k links b f bounds v → v ≡ Fine → b ≡ true
-  beside_may v t e = go b f (sym e ∙ t.is)
-    where
-      go : (b f : Bool) → Fine ≡ entry_verdict b f → b ≡ true
-      go true f z = refl
-      go false f z = sym (ap is_fine z)
-
--- no set is full beside a free linkage, or none
-pub beside_free : (c : Counts) (x y : ℕ) (links bounds : List ℕ) → Covers c 0 links bounds → y ≤ free_to c (total c)
-    → Beside c (set_at (total c + 1) c.heads y links) links (or_none (is_linkage c y) y) (full_for c x y links) bounds Fine
-unfolding full_for set_at
-beside_free c x y links bounds v l =
-    test (many c)
-    (λ ma. none (omega (arith, rw ma at l)))
-    (λ ma. record {
-      is = rw (party_fine (total c) y (rw ma at l), ma);
-      kept = v;
-      covers = λ q. covers_few c 0 _ links links bounds ma v;
-    })
-  where
-    none : y ≡ 0 → Beside c (set_at (total c + 1) c.heads y links) links (or_none (is_linkage c y) y) (full_for c x y links) bounds Fine
-    none z =
-        record {
-          is = rw (z, le-leb 0 c.heads (omega arith)) (go (many c));
-          kept = v;
-          covers = λ q. rw (z, le-leb 0 c.heads (omega arith)) v;
-        }
-      where
-        go : (b : Bool) → Fine ≡ entry_verdict true (if b then false else false)
-        go true = refl
-        go false = refl
 
 -- the call after them; a says that x is a link
 module _ (c : Counts) (links bounds u : List ℕ) (a b f : Bool) (sound : Sound (total c + 1) links) (k : ℕ) (v : Verdict)
@@ -144,23 +80,3 @@ module _ (c : Counts) (links bounds u : List ℕ) (a b f : Bool) (sound : Sound 
 pub entered_as : (c : Counts) (s : ℕ → ℕ → List ℕ → Linked) (links bounds : List ℕ) (got : Linked) (x x' y y' : ℕ) → x ≡ x' → y ≡ y'
     → Entered c links (s x y links) bounds got → Entered c links (s x' y' links) bounds got
 entered_as c s links bounds got x x' y y' e f k = rw (e, f) at k
-
--- ---- out and clear: no set has more members after them
-
-module _ (c : Counts) (links bounds : List ℕ) (v : Covers c 0 links bounds) (w : Linking c links) where
-  -- refused, or done with these links
-  by_test : (b : Bool) (u : List ℕ) → (b ≡ true → Covers c 0 u bounds) → Covers c 0 (linked_if b links u).links bounds
-  by_test true u f = f refl
-  by_test false u f = v
-
-  pub covers_out_step : (x : ℕ) (got : Linked) → Moved (total c + 1) (out_step c x links) got → Covers c 0 got.links bounds
-  unfolding out_step
-  covers_out_step x got k =
-      rw k.is (by_test (is_link c x) (unlinked (total c + 1) x links)
-      (λ e. covers_out c w.0 links bounds w.1 x (link_of c x e) v))
-
-  pub covers_clear_step : (x : ℕ) (got : Linked) → Moved (total c + 1) (clear_step c x links) got → Covers c 0 got.links bounds
-  unfolding clear_step
-  covers_clear_step x got k =
-      rw k.is (by_test (is_head c x) (cleared (total c + 1) x links)
-      (λ e. covers_clear c w.0 links bounds w.1 x (head_of_lem c x e) v))

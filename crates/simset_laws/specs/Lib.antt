@@ -20,7 +20,6 @@ pub mod LimitWorked
 pub mod ToldWorked
 pub mod Meaning
 pub mod BoundLaws
-pub mod UnknownBounds
 pub mod Entering
 pub mod KnownRoom
 pub mod Kept

@@ -7,7 +7,7 @@ use Rattle.ring_laws.specs.Distinct.{Dist}
 use Rattle.ring_laws.specs.Chain.{Chain, prev_in_lem}
 use Rattle.ring_laws.specs.Rings.{Head, Rings, kind, rings_dist, rings_apart, not_own, apart}
 use Rattle.ring_laws.specs.Stores.{sucs, pres, suc_at}
-use Rattle.ring_laws.specs.Spell.{spells_counted}
+use Rattle.ring_laws.proofs.Spell.{spells_counted}
 use Rattle.model_laws.specs.Tables.{set_head, members_of, SpellsSets}
 use Rattle.simset_laws.specs.Sets.{next_in, prev_in, where_in, suc_sets, pred_sets, no_links}
 use Rattle.simset_laws.specs.Procedures.{link_or, suc_of, pred_of, empty_of, cardinal_of}

@@ -57,7 +57,7 @@ pub exceeds_not : (sets : List (List ℕ)) → ((i : ℕ) → length (get_or set
 exceeds_not [] f = refl
 exceeds_not (k ∷ ks) f = rw (le-ltb most_members (length k) (f 0)) (exceeds_not ks (λ i. f (suc i)))
 
-at_most : (sets : List (List ℕ)) → exceeds sets ≡ false → (i : ℕ) → length (get_or sets i []) ≤ most_members
+pub at_most : (sets : List (List ℕ)) → exceeds sets ≡ false → (i : ℕ) → length (get_or sets i []) ≤ most_members
 at_most [] e i = omega arith
 at_most (k ∷ ks) e i =
     test (ltb most_members (length k))
@@ -67,9 +67,6 @@ at_most (k ∷ ks) e i =
     go : (j : ℕ) → length k ≤ most_members → ((n : ℕ) → length (get_or ks n []) ≤ most_members) → length (get_or (k ∷ ks) j []) ≤ most_members
     go zero l f = l
     go (suc j) l f = f j
-
-pub not_exceeding : (sets : List (List ℕ)) → exceeds sets ≡ false → Limited sets
-not_exceeding sets e h = at_most sets e (h - 1)
 
 -- ---- out and clear leave no more members than there were
 

@@ -21,7 +21,7 @@ head_at m H x t = first_from (λ i. leb i H) H t m (get_or t x 0)
 -- ---- its clauses
 
 module _ (f : ℕ → Bool) (H : ℕ) (t : List ℕ) where
-  from_zero : (k i : ℕ) → k ≡ 0 → first_from f H t k i ≡ 0
+  pub from_zero : (k i : ℕ) → k ≡ 0 → first_from f H t k i ≡ 0
   unfolding first_from
   from_zero zero i e = refl
   from_zero (suc k) i e = omega arith
@@ -51,32 +51,3 @@ head_found H t (suc k) i = test (leb i H) (λ e. rw e (leb-true i H e)) (λ e. r
 pub record Walking (f : ℕ → Bool) (H m : ℕ) (t : List ℕ) (v k i : ℕ) : Type 0 where
   pub at : i < m
   pub rest : first_from f H t k i ≡ first_from f H t m v
-
-module _ (f : ℕ → Bool) (H m : ℕ) (t : List ℕ) (v : ℕ) where
-  pub walk_start : v < m → (k : ℕ) → k ≡ m → Walking f H m t v k v
-  walk_start l k e = record { at = l; rest = ap (λ (n : ℕ). first_from f H t n v) e }
-
-  module _ (k i : ℕ) (w : Walking f H m t v k i) where
-    pub walk_out : k ≤ 0 → 0 ≡ first_from f H t m v
-    walk_out l = sym (from_zero f H t k i (omega arith)) ∙ w.rest
-
-    module _ (some : 0 < k) where
-      pub walk_found : f i ≡ true → i ≡ first_from f H t m v
-      walk_found e = sym (from_found f H t k i some e) ∙ w.rest
-
-      pub walk_none : f i ≡ false → i ≤ H → 0 ≡ first_from f H t m v
-      walk_none e l = sym (from_head f H t k i e l) ∙ w.rest
-
-      pub walk_on : Sound m t → f i ≡ false → H < i → (j : ℕ) → j ≡ get_or t i 0 → Walking f H m t v (k - 1) j
-      walk_on s e l j is =
-          record {
-            at = omega (arith, s.inside i);
-            rest =
-                ap (first_from f H t (k - 1)) is
-                ∙ sym (from_on f H t (k - 1) i e l)
-                ∙ ap (λ (n : ℕ). first_from f H t n i) one_more_lem
-                ∙ w.rest;
-          }
-        where
-          one_more_lem : suc (k - 1) ≡ k
-          one_more_lem = omega arith

@@ -6,7 +6,7 @@ use Rattle.ring_laws.specs.Chain.{Chain}
 use Rattle.ring_laws.specs.Distinct.{Dist}
 use Rattle.ring_laws.specs.Rings.{Head, Link, apart, next_place_lem}
 use Rattle.ring_laws.specs.Stores.{sucs, pres}
-use Rattle.ring_laws.specs.Spell.{spells_dist}
+use Rattle.ring_laws.proofs.Spell.{spells_dist}
 use Rattle.axis_laws.specs.AxisRing.{axis_head, SpellsAxis}
 use Rattle.axis_laws.specs.AxisRing.{axis_unlinked, axis_drop}
 use Rattle.ring_laws.specs.Tabulate.{listed, listed_at}

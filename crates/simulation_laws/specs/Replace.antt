@@ -44,7 +44,7 @@ module _ (x u : ℕ) (some : x ≢ 0) where
   named_none (k ∷ ks) f =
       rw (ne_eqb k.who 0 (λ e. f (inl (sym e)))) (ap (λ (l : List Notice). k ∷ l) (named_none ks (λ i. f (inr i))))
 
-  named_dropped : (ns : List Notice) → Named ns → named x (dropped x ns) ≡ dropped x ns
+  pub named_dropped : (ns : List Notice) → Named ns → named x (dropped x ns) ≡ dropped x ns
   named_dropped ns f = named_none (dropped x ns) (λ i. f (drop_in x ns 0 i))
 
   zero_other : eqb 0 x ≡ false
@@ -62,7 +62,7 @@ module _ (x u : ℕ) (some : x ≢ 0) where
     λ d. rw (ne_eqb k.who x d, ne_eqb k.who 0 z) (ap (λ (l : List Notice). k ∷ l) e),
   )
 
-  replaced_behind : (ns : List Notice) → InOrder ns → Named ns → named x (dropped x (behind_all new ns)) ≡ behind_all its (dropped x ns)
+  pub replaced_behind : (ns : List Notice) → InOrder ns → Named ns → named x (dropped x (behind_all new ns)) ≡ behind_all its (dropped x ns)
   replaced_behind [] o f = here [] f
   replaced_behind (k ∷ ks) o f =
       below u k.due
@@ -76,7 +76,7 @@ module _ (x u : ℕ) (some : x ≢ 0) where
       (λ e. r.0 e ∙ sym (rw (eq-eqb k.who x e)))
       (λ d. r.1 d ∙ sym (rw (ne_eqb k.who x d, le-leb k.due u l)))))
 
-  replaced_front : (ns : List Notice) → InOrder ns → Named ns → named x (dropped x (front_all new ns)) ≡ front_all its (dropped x ns)
+  pub replaced_front : (ns : List Notice) → InOrder ns → Named ns → named x (dropped x (front_all new ns)) ≡ front_all its (dropped x ns)
   replaced_front [] o f = here [] f
   replaced_front (k ∷ ks) o f =
       below k.due u
@@ -90,7 +90,7 @@ module _ (x u : ℕ) (some : x ≢ 0) where
       (drop_from x u (k ∷ ks) (l, from_less u k.due ks l o.0)))))
 
   module _ (y : ℕ) (other : y ≢ x) where
-    replaced_before : (ns : List Notice) → Named ns → named x (dropped x (before y new ns)) ≡ before y its (dropped x ns)
+    pub replaced_before : (ns : List Notice) → Named ns → named x (dropped x (before y new ns)) ≡ before y its (dropped x ns)
     replaced_before [] f = refl
     replaced_before (k ∷ ks) f =
         decide k.who y
@@ -103,7 +103,7 @@ module _ (x u : ℕ) (some : x ≢ 0) where
         (λ e. r.0 e ∙ sym (rw (eq-eqb k.who x e)))
         (λ d. r.1 d ∙ sym (rw (ne_eqb k.who x d, ne_eqb k.who y n)))))
 
-    replaced_after : (ns : List Notice) → Named ns → named x (dropped x (after y new ns)) ≡ after y its (dropped x ns)
+    pub replaced_after : (ns : List Notice) → Named ns → named x (dropped x (after y new ns)) ≡ after y its (dropped x ns)
     replaced_after [] f = refl
     replaced_after (k ∷ ks) f =
         decide k.who y
@@ -117,54 +117,6 @@ module _ (x u : ℕ) (some : x ≢ 0) where
         rw (ne_eqb k.who y n) (decide k.who x
         (λ e. r.0 e ∙ sym (rw (eq-eqb k.who x e)))
         (λ d. r.1 d ∙ sym (rw (ne_eqb k.who x d, ne_eqb k.who y n)))))
-
--- ---- the law
-
-module _ (k x y u : ℕ) (some : x ≢ 0) (ns : List Notice) (o : InOrder ns) (f : In 0 (whos ns) → ⊥) where
-  -- beside a Y without a notice nothing is put in
-  left_out : (5 ≤ k) → k ≤ 6 → has_notice y ns ≡ false → replaced k x y u ns ≡ placed k y (record { who = x; due = u }) (dropped x ns)
-  unfolding placed
-  left_out l m h =
-      let none : In y (whos ns) → ⊥ = has_none y ns h in
-      let gone : In y (whos (dropped x ns)) → ⊥ = λ i. none (drop_in x ns y i) in
-      test (eqb k 5)
-      (λ e. rw (e, before_none y (record { who = 0; due = u }) ns none, before_none y (record { who = x; due = u }) (dropped x ns) gone)
-      (named_dropped x u some ns f))
-      (λ e. rw (
-        e,
-        eq-eqb k 6 (omega (arith, eqb-false k 5 e)),
-        after_none y (record { who = 0; due = u }) ns none,
-        after_none y
-            (record { who = x; due = u }) (dropped x ns) gone,
-      )
-      (named_dropped x u some ns f))
-
-  pub replaced_is : k ≤ 6 → (5 ≤ k → has_notice y ns ≡ true → y ≢ x)
-      → replaced k x y u ns ≡ placed k y (record { who = x; due = u }) (dropped x ns)
-  unfolding placed
-  replaced_is m g =
-      below 4 k
-      (λ l. test (has_notice y ns)
-      (λ h. test (eqb k 5)
-      (λ e. rw e (replaced_before x u some y (g l h) ns f))
-      (λ e. rw (e, eq-eqb k 6 (omega (arith, eqb-false k 5 e))) (replaced_after x u some y (g l h) ns f)))
-      (λ h. left_out l m h))
-      (λ l. test (eqb k 1 || eqb k 2)
-      (λ e. rw (ne_eqb k 5 (λ q. omega arith), ne_eqb k 6 (λ q. omega arith), e) (replaced_behind x u some ns o f))
-      (λ e. rw (ne_eqb k 5 (λ q. omega arith), ne_eqb k 6 (λ q. omega arith), e) (replaced_front x u some ns o f)))
-
--- so both orders leave the same lists, with the same refusals
-pub drop_first : (c : Counts) (again : Bool) (k x y : ℕ) (z : ℤ) (l : Lists) → InOrder l.notices → (In 0 (whos l.notices) → ⊥)
-    → timed_drop_first c again k x y z l ≡ timed c again k x y z l
-unfolding timed timed_drop_first
-drop_first c again k x y z l o f =
-    test (timed_need c k x y)
-    (λ g. rw g (test (no_effect again k x y l)
-    (λ q. rw q refl)
-    (λ q. rw q (ap (λ (ns : List Notice). up_to (due_for k y z l) (leaving l ns))
-    (sym (replaced_is k x y (due_for k y z l) (not_none again k x y l q) l.notices o f (clause_in c k x y g)
-    (λ m h. others_y again k x y l m q h)))))))
-    (λ g. rw g refl)
 
 -- a clause up to 4 does not look at Y
 pub timed_plain : (c : Counts) (again : Bool) (k x y : ℕ) (z : ℤ) (l : Lists) → k < 5

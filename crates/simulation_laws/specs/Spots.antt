@@ -6,7 +6,7 @@ use Rattle.ring_laws.specs.Lists.{In, decide, behind, ahead, behind_head, test}
 use Rattle.ring_laws.specs.Chain.{prev_in_lem, back, behind_ahead}
 use Rattle.ring_laws.specs.Distinct.{Dist}
 use Rattle.ring_laws.specs.Stores.{sucs, pres}
-use Rattle.ring_laws.specs.Spell.{spells_few}
+use Rattle.ring_laws.proofs.Spell.{spells_few}
 use Rattle.axis_laws.specs.AxisRing.{axis_head}
 use Rattle.axis_laws.specs.AxisRing.{axis_linked}
 use Rattle.model.specs.declared.Counts.{Counts}

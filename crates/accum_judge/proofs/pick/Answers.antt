@@ -1,4 +1,4 @@
-use Rattle.model_laws.specs.Ready.{judged_ready}
+use Rattle.model_laws.proofs.Ready.{judged_ready}
 use Rattle.accum_laws.specs.Promise.{number_in}
 use Rattle.accum_laws.specs.Picks.{picked_passed, pick_turned, pick_fine}
 use native.Mathlib.Omega.{arith}

@@ -1,5 +1,5 @@
 use mathlib.Core.Path.{sym, ◌∙◌}
-use Rattle.model_laws.specs.Ready.{judged_ready}
+use Rattle.model_laws.proofs.Ready.{judged_ready}
 use Rattle.model_laws.specs.Called.{asked_turned, asked_fine}
 use Rattle.simulation_laws.specs.Promise.{ready_judged}
 use borrow.Author.Rules.{rules}

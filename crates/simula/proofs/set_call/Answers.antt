@@ -1,5 +1,5 @@
 use mathlib.Core.Path.{sym, ◌∙◌}
-use Rattle.model_laws.specs.Ready.{judged_ready}
+use Rattle.model_laws.proofs.Ready.{judged_ready}
 use Rattle.model_laws.specs.Called.{called_turned, called_fine}
 use Rattle.simset_laws.specs.Told.{links_answered}
 use Rattle.simset_laws.specs.Promise.{on_links_lem}

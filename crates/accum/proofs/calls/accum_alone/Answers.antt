@@ -1,6 +1,6 @@
 use lib.IntN.{ℤ}
 use mathlib.Core.Path.{sym, ◌∙◌, ap}
-use Rattle.model_laws.specs.Ready.{judged_ready}
+use Rattle.model_laws.proofs.Ready.{judged_ready}
 use Rattle.accum_laws.specs.Signed.{kept}
 use Rattle.accum_laws.specs.Calls.{accum_one}
 use Rattle.accum_laws.specs.Promise.{alone_turned, alone_fine, time_in}

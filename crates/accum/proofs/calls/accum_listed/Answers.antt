@@ -1,6 +1,6 @@
 use lib.IntN.{ℤ}
 use mathlib.Core.Path.{◌∙◌, ap}
-use Rattle.model_laws.specs.Ready.{judged_ready}
+use Rattle.model_laws.proofs.Ready.{judged_ready}
 use Rattle.accum_laws.specs.Signed.{kept}
 use Rattle.accum_laws.specs.Flat.{updated_in}
 use Rattle.accum_laws.specs.Promise.{listed_passed, listed_in, listed_turned, listed_fine}

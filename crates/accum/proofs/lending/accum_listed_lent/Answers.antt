@@ -1,5 +1,6 @@
 use Rattle.accum_laws.specs.Signed.{kept}
-use Rattle.accum_laws.specs.Gather.{listed_size, listed_in, listed_within, listed_lent}
+use Rattle.accum_laws.specs.Gather.{listed_in, listed_within}
+use Rattle.accum_laws.proofs.Gather.{listed_size, listed_lent}
 use Rattle.std.proofs.Common.{ap, not}
 use Rattle.accum.proofs.lending.accum_listed_lent.Goals as goal
 

@@ -2,7 +2,7 @@ use Rattle.std.proofs.Common.{rules, ◌∙◌, ◌<◌, ℤ, ap, length, get_or
 use Rattle.accum_laws.specs.Signed.{kept}
 use Rattle.accum_laws.specs.Calls.{accum_one}
 use Rattle.accum_laws.specs.Keeps.{zero_accumulator}
-use Rattle.accum_laws.specs.Picks.{pick_found, pick_not}
+use Rattle.accum_laws.proofs.Picks.{pick_found, pick_not}
 use Rattle.accum.proofs.lent.accum_at.Goals as goal
 
 pub returns-then-p : goal.returns-then-p

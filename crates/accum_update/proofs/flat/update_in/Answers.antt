@@ -2,7 +2,7 @@ use lib.IntN.{ℤ}
 use mathlib.Core.Path.{◌∙◌, ap}
 use Rattle.accum_laws.specs.Signed.{kept}
 use Rattle.accum_laws.specs.Update.{updated_of}
-use Rattle.accum_laws.specs.Flat.{in_to, in_not}
+use Rattle.accum_laws.proofs.Flat.{in_to, in_not}
 use Rattle.accum_update.proofs.flat.update_in.Goals as goal
 
 pub returns-in-To : goal.returns-in-To

@@ -1,6 +1,6 @@
 use Rattle.std.proofs.Common.{rules, ◌≡◌, ◌+ℤ◌, ◌∙◌, ap, refl, arith, ℕ, nat_abs, leb, SFits, w64}
 use Rattle.accum_laws.specs.Signed.{word, abs_word, sign_word, abs_add, fits_abs, asks2, gives2}
-use Rattle.accum_laws.specs.Update.{may_since, may_past, may_sum, may_rate, may_far, may_last}
+use Rattle.accum_laws.proofs.Update.{may_since, may_past, may_sum, may_rate, may_far, may_last}
 use Rattle.accum_update.proofs.update.may_update.Goals as goal
 
 pub returns-then-below_zero : goal.returns-then-below_zero

@@ -1,7 +1,7 @@
 use Rattle.std.proofs.Common.{rules, ◌≡◌, ◌+ℤ◌, ◌-ℤ◌, ◌*ℤ◌, ◌∙◌, ap, refl, sym, ℤ, pos, SFits, w64, true, false}
 use Rattle.accum_laws.specs.Signed.{word, kept, asks2, gives2, ap2}
 use Rattle.accum_laws.specs.Update.{may_update, updated_not}
-use Rattle.accum_laws.specs.Keeps.{stored_growable, rate_fits, stored_to}
+use Rattle.accum_laws.proofs.Keeps.{stored_growable, rate_fits, stored_to}
 use Rattle.accum_update.proofs.update.updated.Goals as goal
 
 pub gathered-a-requires : goal.gathered-a-requires

@@ -4,7 +4,7 @@ use mir.ValLaws.{to_z-of_z}
 use borrow.Author.Rules.{rules}
 use native.Mathlib.Omega.{arith}
 use Rattle.run_laws.specs.Performing.{judged, x_readable}
-use Rattle.run_laws.specs.Soon.{soon_left, soon_delayed}
+use Rattle.run_laws.proofs.Soon.{soon_left, soon_delayed}
 use Rattle.std.proofs.Common.{ap, not}
 use Rattle.run_arms.proofs.soon.delayed_of.Goals as goal
 

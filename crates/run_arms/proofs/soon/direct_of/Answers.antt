@@ -2,7 +2,7 @@ use mathlib.Core.Path.{sym}
 use borrow.Author.Rules.{rules}
 use native.Mathlib.Omega.{arith}
 use Rattle.run_laws.specs.Performing.{judged, x_readable}
-use Rattle.run_laws.specs.Soon.{soon_left, soon_direct}
+use Rattle.run_laws.proofs.Soon.{soon_left, soon_direct}
 use Rattle.std.proofs.Common.{ap, not}
 use Rattle.run_arms.proofs.soon.direct_of.Goals as goal
 

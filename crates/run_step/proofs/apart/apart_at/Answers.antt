@@ -1,5 +1,5 @@
-use Rattle.simset_laws.specs.Entering.{covers_clear_step}
-use Rattle.run_laws.specs.Arms.{arm_2, arm_3, arm_4, arm_5, arm_7, arm_8, arm_9, arm_timed_as}
+use Rattle.simset_laws.proofs.Entering.{covers_clear_step}
+use Rattle.run_laws.proofs.Arms.{arm_2, arm_3, arm_4, arm_5, arm_7, arm_8, arm_9, arm_timed_as}
 use Rattle.run_laws.specs.Tried.{left_apart}
 use Rattle.run_laws.specs.Performing.{judged, takeable, x_readable, y_readable, some, most}
 use mathlib.Core.Path.{sym, ◌∙◌}

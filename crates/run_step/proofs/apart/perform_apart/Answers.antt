@@ -1,7 +1,7 @@
 use mathlib.Core.Path.{sym, ap, ◌∙◌}
 use Rattle.simulation_laws.specs.Promise.{ready_takeable}
 use Rattle.sheet.specs.declared.records.Record.{Record}
-use Rattle.run_laws.specs.Arms.{arm_0}
+use Rattle.run_laws.proofs.Arms.{arm_0}
 use Rattle.run_laws.specs.Reads.{got_end}
 use Rattle.run_laws.specs.Run.{record_got}
 use Rattle.run_laws.specs.Tried.{apart}

@@ -2,7 +2,7 @@ use mathlib.Core.Path.{sym, ap}
 use Rattle.sheet.specs.declared.records.Record.{Record}
 use Rattle.run_laws.specs.Reads.{got_end}
 use Rattle.run_laws.specs.Run.{record_got}
-use Rattle.run_laws.specs.Tried.{left_0, tried_not}
+use Rattle.run_laws.proofs.Tried.{left_0, tried_not}
 use Rattle.run_laws.specs.Performing.{tried_at}
 use borrow.Author.Rules.{rules}
 use native.Mathlib.Omega.{arith}

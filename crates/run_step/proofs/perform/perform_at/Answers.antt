@@ -1,11 +1,12 @@
 use borrow.Author.Tests.{not-true}
 use Rattle.simset_laws.specs.Promise.{failed, passed}
-use Rattle.simset_laws.specs.Entering.{covers_out_step}
-use Rattle.simset_laws.specs.KnownRoom.{known_head, has_room, into_covers, left_covers}
+use Rattle.simset_laws.proofs.Entering.{covers_out_step}
+use Rattle.simset_laws.specs.KnownRoom.{left_covers}
+use Rattle.simset_laws.proofs.KnownRoom.{known_head, has_room, into_covers}
 use Rattle.simulation_laws.specs.WaitPromise.{wait_covers}
-use Rattle.run_laws.specs.Reads.{operand_low}
-use Rattle.run_laws.specs.Arms.{arm_1, arm_4, arm_6, arm_8, arm_12, arm_13}
-use Rattle.run_laws.specs.Tried.{here, here_known, left_unknown, left_10, left_other, tried_not, tried_made}
+use Rattle.run_laws.proofs.ReadsLaws.{operand_low}
+use Rattle.run_laws.proofs.Arms.{arm_1, arm_4, arm_6, arm_8, arm_12, arm_13}
+use Rattle.run_laws.proofs.Tried.{here, here_known, left_unknown, left_10, left_other, tried_not, tried_made}
 use Rattle.run_laws.specs.Performing.{judged, takeable, noticed, place_some, x_readable, y_readable, numbered, in_sixty_four}
 use mathlib.Core.Path.{refl, sym, ◌∙◌}
 use Rattle.sheet.specs.Sheet.{record_from}

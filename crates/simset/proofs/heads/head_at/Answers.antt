@@ -4,7 +4,8 @@ use mathlib.Core.Path.{refl}
 use lib.Dec.{leb}
 use lib.ListN.{get_or}
 use borrow.Author.Tests.{le-leb, lt-leb}
-use Rattle.simset_laws.specs.Walk.{Walking, walk_start, walk_found, walk_on, walk_out}
+use Rattle.simset_laws.specs.Walk.{Walking}
+use Rattle.simset_laws.proofs.Walk.{walk_start, walk_found, walk_on, walk_out}
 use Rattle.simset.proofs.heads.head_at.Goals as goal
 
 pub loop-k-init : goal.loop-k-init

@@ -1,6 +1,7 @@
 use Rattle.simset_laws.specs.Promise.{link_in, linkage_in, none_or, followed_at, passed, first_failed}
-use Rattle.simset_laws.specs.BoundLaws.{covers_followed}
-use Rattle.simset_laws.specs.Entering.{entering_not, beside_may, entering_refused, entering_beside}
+use Rattle.simset_laws.proofs.BoundLaws.{covers_followed}
+use Rattle.simset_laws.specs.Entering.{entering_refused, entering_beside}
+use Rattle.simset_laws.proofs.Entering.{entering_not, beside_may}
 use Rattle.simset_laws.specs.Calls.{follow_step}
 use borrow.Author.Rules.{rules}
 use native.Mathlib.Omega.{arith}

@@ -1,6 +1,6 @@
 use Rattle.simset_laws.specs.Promise.{link_in, head_in, none_or, preceded_at, passed, first_failed, second_failed, both_passed}
-use Rattle.simset_laws.specs.BoundLaws.{covers_preceded}
-use Rattle.simset_laws.specs.Entering.{entering_not, entering_full, entering}
+use Rattle.simset_laws.proofs.BoundLaws.{covers_preceded}
+use Rattle.simset_laws.proofs.Entering.{entering_not, entering_full, entering}
 use Rattle.simset_laws.specs.Calls.{into_step}
 use borrow.Author.Rules.{rules}
 use native.Mathlib.Omega.{arith}

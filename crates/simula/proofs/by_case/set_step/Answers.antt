@@ -1,5 +1,5 @@
 use Rattle.simset_laws.specs.Promise.{moved_as}
-use Rattle.simset_laws.specs.UnknownBounds.{covers_unknown}
+use Rattle.simset_laws.proofs.UnknownBounds.{covers_unknown}
 use borrow.Author.Rules.{rules}
 use Rattle.simula.proofs.by_case.set_step.Goals as goal
 

@@ -1,4 +1,4 @@
-use Rattle.simset_laws.specs.UnknownBounds.{covers_unknown}
+use Rattle.simset_laws.proofs.UnknownBounds.{covers_unknown}
 use borrow.Author.Rules.{rules}
 use Rattle.simula.proofs.by_case.wait.Goals as goal
 

@@ -24,13 +24,15 @@ use Rattle.machine.specs.Calls.{if_empty, Call, on_list, lists_after, perform}
 use Rattle.machine.specs.Steps.{its_operand, call_of, next_of, record_of, record_now, its_call, its_next, call_now, next_now, line_now, moved_on}
 use Rattle.machine_laws.specs.TurnCases.{Then}
 use Rattle.run_laws.specs.OnTables.{Carried, carried_out}
-use Rattle.run_laws.specs.PerformFollows.{FollowsRun, perform_follows}
+use Rattle.run_laws.specs.PerformFollows.{FollowsRun}
+use Rattle.run_laws.proofs.PerformFollows.{perform_follows}
 use Rattle.run_laws.specs.MachineTurns.{perform_sizes, next_in_lem, set_in}
 use Rattle.run_laws.specs.MachineLaws.{accepted_range}
 use Rattle.run_laws.specs.Run.{RunTables, run_of, Turned, On, Off, record_got, resolved, call_due, turned_of, Stepped, moved, record_at_now}
 use Rattle.run_laws.specs.Run.{due_in, line_in, step_on}
 use Rattle.run_laws.specs.Standing.{Stands, ready, now_in}
-use Rattle.run_laws.specs.Refine.{bytes_of, stood, fit, current_is, record_is, line_is, list_after, some_call, some_next}
+use Rattle.run_laws.specs.Refine.{bytes_of}
+use Rattle.run_laws.proofs.Refine.{stood, fit, current_is, record_is, line_is, list_after, some_call, some_next}
 
 -- an accepted 12 has a head
 head_done : (c : Counts) (x : ℕ) (m k : Machine) → perform c (on_list (if_empty x)) m ≡ done k → is_head c x ≡ true

@@ -8,10 +8,11 @@ use Rattle.machine.specs.Run.{line_size}
 use Rattle.run_laws.specs.declared.Pause.TheVariants.{Full, Apart}
 use Rattle.run_laws.specs.Run.{RunTables, run_of, record_got, RanOn}
 use Rattle.run_laws.specs.Performed.{Performed}
-use Rattle.run_laws.specs.Tried.{apart, tried, is_apart, left_of_lem}
+use Rattle.run_laws.specs.Tried.{apart, tried, is_apart}
+use Rattle.run_laws.proofs.Tried.{left_of_lem}
 use Rattle.run_laws.specs.Paused.{Paused}
 use Rattle.run_laws.specs.Running.{positioned}
-use Rattle.run_laws.specs.Counting.{room_left, no_room}
+use Rattle.run_laws.proofs.Counting.{room_left, no_room}
 use Rattle.run_laws.specs.Stretching.{Stretching}
 
 module _ (c : Counts) (bytes : List ℕ) (end stop n₀ : ℕ) (whole : RanOn) (u₀ : RunTables) (tr₀ : List ℕ) (at f time r : ℕ) (u : RunTables)

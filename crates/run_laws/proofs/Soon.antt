@@ -15,8 +15,9 @@ use Rattle.run_laws.specs.OnTables.{operand_with}
 use Rattle.run_laws.specs.declared.Effect.{Effect}
 use Rattle.run_laws.specs.declared.Effect.TheVariants.{Moves, Apart}
 use Rattle.run_laws.specs.Performed.{unless_refused}
-use Rattle.run_laws.specs.Tried.{at_hand, tried, here_soon, left_far, tried_not, tried_made}
-use Rattle.run_laws.specs.Arms.{arm_10, arm_delay}
+use Rattle.run_laws.specs.Tried.{at_hand, tried}
+use Rattle.run_laws.proofs.Tried.{here_soon, left_far, tried_not, tried_made}
+use Rattle.run_laws.proofs.Arms.{arm_10, arm_delay}
 
 module _ (c : Counts) (q : Record) (f : ℕ) (links axis times marks : List ℕ) (w : List ℤ) (known : Bool) (op : q.operation ≡ 10)
     (x : ℕ) (is : x ≡ operand_with c false links f q.x) (ok : Bool) (told : ok ≡ or_none (is_process c x) x) where

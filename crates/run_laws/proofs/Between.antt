@@ -10,7 +10,8 @@ use Rattle.run_laws.specs.declared.Pause.{Pause}
 use Rattle.run_laws.specs.declared.Pause.TheVariants.{Full, Apart as Due, Refused as Stopped}
 use Rattle.run_laws.specs.declared.Stretch.{Stretch}
 use Rattle.run_laws.specs.Run.{RunTables, RanOn, stopped_on, turns_on}
-use Rattle.run_laws.specs.Turning.{turning_then, line_fits}
+use Rattle.run_laws.specs.Turning.{turning_then}
+use Rattle.run_laws.proofs.Turning.{line_fits}
 use Rattle.run_laws.specs.Counting.{Counting}
 use Rattle.run_laws.specs.Paused.{left_by, is_full, is_due, Paused}
 

@@ -1,0 +1,26 @@
+-- The laws of the definitions in specs/.
+pub mod AnyTurn
+pub mod Arms
+pub mod Between
+pub mod CallFollows
+pub mod Counting
+pub mod Demand3
+pub mod GoesOn
+pub mod Kept
+pub mod MachineLaws
+pub mod MachineTurns
+pub mod OneTurn
+pub mod PerformFollows
+pub mod ReadsLaws
+pub mod Refine
+pub mod Resolving
+pub mod Running
+pub mod Soon
+pub mod StepFollows
+pub mod StepIs
+pub mod StretchEnds
+pub mod Stretching
+pub mod Tried
+pub mod Turning
+pub mod TurnsFollow
+pub mod Which
