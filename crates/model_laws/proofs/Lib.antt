@@ -3,6 +3,7 @@ pub mod AxisJudged
 pub mod Formed
 pub mod NowLaws
 pub mod Positions
+pub mod PositionsVerdict
 pub mod Ready
 pub mod Tests
 pub mod Verdict

@@ -1,4 +1,4 @@
--- The judge of a run's positions: its clauses, and that it answers fine, 1 or 2 exactly where the papers say.
+-- The judge of a run's positions: its clauses, and that it is sound and complete.
 use Rattle.std.specs.Prelude.{ℕ, zero, suc, ◌+◌, ◌<◌, ◌≤◌, ◌≡◌, ◌≢◌, true, false, List, eqb, length, get_or}
 use Rattle.std.proofs.Math.Path.{refl}
 use Rattle.std.proofs.Common.{sym, ap, ◌∙◌, arith, eq-eqb, ne_eqb, eqb-true, lt-ltb, le-ltb}
@@ -38,23 +38,3 @@ module _ (R : ℕ) (positions : List ℕ) where
       → positions_fine R positions p ≡ true
   positions_complete zero z f = positions_zero ∙ eq-eqb (get_or positions 0 0) 0 z
   positions_complete (suc p) z f = positions_on p (f (suc p) (omega arith)) ∙ positions_complete p z (λ y l. f y (omega arith))
-
-pub positions_say : (c : Counts) (R : ℕ) (positions : List ℕ) → PositionsSay c R positions (positions_judged c R positions)
-positions_say c R positions =
-    record {
-      fine = λ e w. judged_fine c R positions e (positions_complete R positions c.processes w.zero_is w.in_sheet);
-      one = λ n. judged_length c R positions n;
-      two = λ e n.
-          test (positions_fine R positions c.processes)
-          (λ f. absurd (n (stands f)))
-          (λ f. judged_not c R positions e f);
-      fine_only = λ e.
-          decide (length positions) (c.processes + 1)
-          (λ l. test (positions_fine R positions c.processes)
-          (λ f. (l, stands f))
-          (λ f. let q : Refused Malformed ≡ Fine = sym (judged_not c R positions l f) ∙ e in let z : false ≡ true = cc in clash z))
-          (λ n. let q : Refused Size ≡ Fine = sym (judged_length c R positions n) ∙ e in let z : false ≡ true = cc in clash z);
-    }
-  where
-    stands : positions_fine R positions c.processes ≡ true → Positions c R positions
-    stands f = let r = positions_sound R positions c.processes f in record { zero_is = r.0; in_sheet = r.1 }

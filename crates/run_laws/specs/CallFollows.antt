@@ -10,7 +10,7 @@ use Rattle.model.specs.Counts.{in_limits, both}
 use Rattle.model.specs.declared.verdict.Verdict.TheVariants.{Fine, Refused as Judged}
 use Rattle.model_laws.specs.Judge.{lengths_fine, judged, positions_judged}
 use Rattle.model_laws.proofs.Verdict.{judged_says, mean_sized}
-use Rattle.model_laws.proofs.Positions.{positions_say}
+use Rattle.model_laws.proofs.PositionsVerdict.{positions_say}
 use Rattle.sheet.specs.declared.header.Checked.{Checked}
 use Rattle.sheet.specs.declared.header.Checked.TheVariants.{Accepted}
 use Rattle.sheet.specs.Sheet.{counts_of, records_of, Sheet, sheet_of}

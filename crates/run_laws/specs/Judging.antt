@@ -14,7 +14,7 @@ use Rattle.model.specs.declared.verdict.Verdict.TheVariants.{Fine, Refused as Ju
 use Rattle.model_laws.specs.Judge.{lengths_fine, judged, positions_judged}
 use Rattle.model_laws.proofs.Verdict.{judged_says}
 use Rattle.model_laws.specs.Positions.{Positions}
-use Rattle.model_laws.proofs.Positions.{positions_say}
+use Rattle.model_laws.proofs.PositionsVerdict.{positions_say}
 use Rattle.accum_laws.specs.declared.Accumulator.{Accumulator}
 use Rattle.accum_laws.specs.Triples.{flat}
 use Rattle.sheet.specs.declared.header.Header.{Header}
