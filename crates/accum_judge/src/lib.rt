@@ -1,5 +1,6 @@
 // What public calls of accum look at before an update: the model's time, and refusals 1, 2 and 3 of a list and a number in it.
 #![tactic(auto)]
+
 ghost use Rattle.std.specs.Prelude.{◌≡◌};
 ghost use Rattle.model_laws.specs.Ready.{Ready};
 ghost use Rattle.model_laws.specs.Now.{half, time_of};

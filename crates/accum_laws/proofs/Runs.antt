@@ -21,7 +21,6 @@ use Rattle.accum_laws.proofs.Keeps.{accepted_required, refused_rate}
 use Rattle.accum_laws.specs.Flat.{updated_in}
 use Rattle.accum_laws.specs.Triples.{flat, flattened, flat_length, flat_updated, numbered, list_after, updated_at}
 use Rattle.accum_laws.specs.Calls.{count_fine, list_fine, number_fine, list_judged, changing, listing, accum_listed, accum_at}
-
 -- ---- the flat list and the list of structs
 use Rattle.accum_laws.specs.Runs.{flat_fine, Each, set_each}
 

@@ -1,5 +1,6 @@
 // Accumulators: what an update does, by value, in a list and as a call, in specs/. The code is in `accum_update` and `accum`.
 #![tactic(auto)]
+
 use model::Refusal;
 use model::answer::Answer;
 

@@ -1,5 +1,6 @@
 // The calls program's requests and responses in bytes: the head of a request, its contents, and what a call answers.
 #![tactic(auto)]
+
 pub mod contents;
 mod copying;
 pub mod head;

@@ -1,5 +1,6 @@
 // The plain machine: what a run of a model sheet means, in specs/. There is no function here, only the type that code and specs share.
 #![tactic(auto)]
+
 use model::Refusal;
 
 // How a run ends.

@@ -1,5 +1,6 @@
 // The fresh model: empty sets and one notice, main at 0.
 #![tactic(auto)]
+
 ghost use Rattle.std.specs.Prelude.{◌≡◌, ◌+◌, ◌*◌, ◌<◌, ◌≤◌, length};
 ghost use Rattle.ring_laws.specs.Lists.{zeros};
 ghost use Rattle.model_laws.specs.Tables.{Sized, model_of};

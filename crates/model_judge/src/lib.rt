@@ -1,5 +1,6 @@
 // The judge of a model's lent tables: refusals 1 and 2.
 #![tactic(auto)]
+
 ghost use Rattle.std.specs.Prelude.{◌≡◌, ◌+◌, ◌*◌, ◌<◌, ◌≤◌, length};
 ghost use Rattle.ring_laws.specs.Stores.{sucs, pres};
 ghost use Rattle.model_laws.specs.Tables.{Sized, model_of};

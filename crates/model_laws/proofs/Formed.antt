@@ -21,7 +21,6 @@ use Rattle.axis_laws.specs.AxisRing.{axis_head_lem, axis_event}
 use Rattle.axis_laws.specs.Reading.{Timed, notices_of, places_of, length_of_lem, due_in_lem, due_out, order_of, within_of, whos_of, ended_of}
 use Rattle.axis_laws.specs.Reading.{ended_mark, mark_is, who_place, place_who, dist_whos, length_places, due_none, timed}
 use Rattle.axis_laws.specs.Reading.{within_timed, order_timed}
-
 -- ---- the sets: the heads 1 .. H, and the links H + 1 .. m - 1
 use Rattle.model_laws.specs.Formed.{links_sound, links_complete, lists_of, events_spelled, axis_spelled}
 

@@ -8,7 +8,6 @@ use borrow.Author.Tests.{eq-eqb, ne_eqb, lt-ltb, le-ltb}
 use Rattle.ring_laws.specs.Lists.{In, decide, below, clash}
 use Rattle.ring_laws.specs.Chain.{Edge, Chain}
 use Rattle.ring_laws.specs.Judge.{allowed, step, walk}
-
 -- ---- the clauses
 use Rattle.ring_laws.specs.RingWalk.{allowed_head, step_not, step_one_way, step_is, walk_broken, walk_back, walk_short, walk_on, allowed_mean, mean_allowed, WalkPassed, none}
 

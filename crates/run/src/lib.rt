@@ -1,5 +1,6 @@
 // The runner of model sheets: a run goes on from its lent tables, turn by turn, and writes a line for each accepted step.
 #![tactic(auto)]
+
 pub mod fresh;
 
 ghost use Rattle.std.specs.Prelude.{◌≡◌};

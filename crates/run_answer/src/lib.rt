@@ -1,5 +1,6 @@
 // A run's answer as a number: lines × 256 + code.
 #![tactic(auto)]
+
 ghost use Rattle.std.specs.Prelude.{◌≡◌};
 ghost use Rattle.run_laws.specs.Run.{end_code, ran_number};
 

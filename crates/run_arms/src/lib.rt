@@ -1,6 +1,7 @@
 // What one step of a run is made of, on judged tables: reading its record, the call of each operation, and then the process moves on and
 // the line is written. Core functions: the caller knows that the tables were judged.
 #![tactic(auto)]
+
 pub mod arms;
 mod members;
 pub mod reading;

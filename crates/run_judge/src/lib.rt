@@ -1,5 +1,6 @@
 // Refusals 1 and 2 of a run: lengths first, then what the tables hold.
 #![tactic(auto)]
+
 mod positions;
 
 ghost use Rattle.std.specs.Prelude.{◌≡◌};

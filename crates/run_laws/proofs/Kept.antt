@@ -32,7 +32,6 @@ use Rattle.run_laws.specs.Fresh.{sizes_fine, filled_for, filled}
 use Rattle.run_laws.specs.OnTables.{tables_after, Carried, carried_out}
 use Rattle.run_laws.specs.Run.{RunTables, run_of, run_judged, call_due, Turned, On, Off, turned_of, Stepped, moved, due_in, line_in, step_on}
 use Rattle.run_laws.specs.Run.{ends_now, RanOn, stopped_on, turns_on, judged_run, checked_run, run_on}
-
 -- ---- a call
 use Rattle.run_laws.specs.Kept.{lists_kept, turned_off}
 

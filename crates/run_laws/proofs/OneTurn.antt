@@ -22,7 +22,6 @@ use Rattle.run_laws.proofs.StepIs.{step_off, step_on_lem}
 use Rattle.run_laws.specs.Turning.{Turning}
 use Rattle.run_laws.proofs.Turning.{turning_on, step_refused, in_finished}
 use Rattle.run_laws.specs.Running.{Here, here_at}
-
 -- ---- what the code of a turn leaves, with current's place f, time and record r read off the tables
 use Rattle.run_laws.specs.OneTurn.{made_on, off_by, no_end}
 

@@ -25,7 +25,6 @@ use Rattle.machine.specs.Calls.{ListCall, on_set, hold, passivate, wait, cancel,
 use Rattle.machine.specs.Calls.{lifted, storing, perform}
 use Rattle.run_laws.specs.OnTables.{tables_after, Carried, carried_out}
 use Rattle.run_laws.proofs.Resolving.{time_at}
-
 -- ---- the calls on lists
 use Rattle.run_laws.specs.PerformFollows.{lists_follow, FollowsRun}
 

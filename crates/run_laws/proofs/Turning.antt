@@ -18,7 +18,6 @@ use Rattle.run_laws.specs.Run.{RunTables, Turned, On, Off, Stepped, call_due, tu
 use Rattle.run_laws.specs.Run.{stopped_on, turns_on}
 use Rattle.run_laws.specs.Standing.{Standing, sized, ready, positions_length, words_length}
 use Rattle.run_laws.proofs.StepFollows.{StepIs, step_follows}
-
 -- ---- an accepted step leaves tables of a machine
 use Rattle.run_laws.specs.Turning.{Turning}
 

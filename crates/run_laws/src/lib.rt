@@ -1,6 +1,7 @@
 // Runs of model sheets: what a run call does to its tables and trace, that this is the plain machine's, and demand 3, in specs/. The code
 // is in `run_arms`, `run_step`, `run_turn`, `run_turns`, `run_fresh`, `run_judge`, `run_answer` and `run`.
 #![tactic(auto)]
+
 use machine::End;
 use model::Refusal;
 

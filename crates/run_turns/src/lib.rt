@@ -1,6 +1,7 @@
 // Turn after turn on judged tables, until main has finished, the trace is full or a step is refused: stretches of turns, and between them
 // a turn whose call no stretch makes. Bounds of the sets' sizes stand beside the tables while this goes on.
 #![tactic(auto)]
+
 ghost use Rattle.std.specs.Prelude.{◌≡◌, ◌/◌, ◌≤◌, length};
 ghost use Rattle.run_laws.specs.Run.{lent, turns_on};
 ghost use Rattle.run_laws.specs.Standing.{Standing};

@@ -1,5 +1,6 @@
 // The layout check of model sheets, over a constant table of operations.
 #![tactic(auto)]
+
 pub mod check;
 pub mod fields;
 pub mod header;

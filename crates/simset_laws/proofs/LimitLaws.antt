@@ -17,7 +17,6 @@ use Rattle.simset_laws.specs.QueryLaws.{found}
 use Rattle.simset_laws.proofs.FullLaws.{elsewhere, within_its_own, none_exceeds}
 use Rattle.simset_laws.specs.Laws.{sets_out, behind_nowhere, ahead_nowhere}
 use Rattle.simset_laws.proofs.Laws.{follows_itself, precedes_itself}
-
 -- ---- "after which some set would have 513 members"
 use Rattle.simset_laws.specs.LimitLaws.{exceeding}
 

@@ -36,7 +36,6 @@ use Rattle.simset_laws.proofs.HeadLaws.{head_says}
 use Rattle.simset_laws.specs.SizeLaws.{Puts, puts_behind, puts_ahead, out_limited, clear_limited}
 use Rattle.simset_laws.proofs.SizeLaws.{not_exceeding}
 use Rattle.simset_laws.proofs.FullLaws.{full_says}
-
 -- ---- operands as places of the table
 use Rattle.simset_laws.specs.Meaning.{link_of, head_of_lem}
 

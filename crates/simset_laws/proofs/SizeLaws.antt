@@ -8,7 +8,6 @@ use Rattle.model.specs.Counts.{most_members}
 use Rattle.model_laws.specs.Tables.{members_of, Limited}
 use Rattle.simset_laws.specs.Sets.{out_sets, clear_sets, exceeds}
 use Rattle.simset_laws.specs.EachSet.{ahead_none}
-
 -- ---- one list: f puts a number beside y, where y is its head g or a member
 use Rattle.simset_laws.specs.SizeLaws.{at_most}
 

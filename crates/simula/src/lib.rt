@@ -1,6 +1,7 @@
 // The public calls and queries of SIMSET and SIMULATION: each is lent the whole model and a call as a value, judges the model, and makes
 // the call or tells the answer. Refusals come in the order 1, 2, 3, then the rest; a refused call changes no word.
 #![tactic(auto)]
+
 mod by_case;
 mod told;
 

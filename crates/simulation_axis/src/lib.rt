@@ -1,6 +1,7 @@
 // Reading the time axis: m is P + 2, the axis's own head stands at m - 1, and a process's notice at its place. All other crates read it
 // here.
 #![tactic(auto)]
+
 ghost use Rattle.std.specs.Prelude.{◌≡◌, ◌<◌, length};
 ghost use Rattle.model_laws.specs.Now.{AxisSound, first_of, next_place, prev_place, idle_on};
 ghost use Rattle.simulation_laws.specs.Procedures.{found};

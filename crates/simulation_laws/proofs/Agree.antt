@@ -22,7 +22,6 @@ use Rattle.simulation_laws.specs.Calls.{sqs_of}
 use Rattle.simulation_laws.specs.Places.{SpellsTime, chain, off_head, once, is_process_lem, times_at, times_set, drop_spells}
 use Rattle.axis_laws.specs.Notices.{Process}
 use Rattle.simulation_laws.specs.Spots.{put_spells, found_spot}
-
 -- ---- what a call leaves, and what the machine answers
 use Rattle.simulation_laws.specs.Agree.{Agrees, its_time, its_kept, respell}
 

@@ -34,7 +34,6 @@ use Rattle.simulation_laws.proofs.Agree.{st, time_is}
 use Rattle.simulation_laws.specs.AgreeEnds.{Party, party, has_in, has_none, idle_has}
 use Rattle.simulation_laws.proofs.AgreeEnds.{drop_agrees}
 use Rattle.simulation_laws.specs.Calls.{sqs_of}
-
 -- ---- numbers and tests
 use Rattle.simulation_laws.specs.AgreeTimed.{delay_is, bit_not, not_not, and_tail, from_first}
 

@@ -20,7 +20,6 @@ use Rattle.simulation_laws.specs.Procedures.{Sqs, Outcome, made, turned_down, id
 use Rattle.simulation_laws.specs.Procedures.{cancelled, vain, due_at, put_by_clause, activated, finished_marks}
 use Rattle.simulation_laws.specs.Calls.{y_place, sqs_of, hold_step, passivate_step, cancel_step, timed_step, finish_step, wait_step, on_sqs}
 use Rattle.simulation_laws.specs.Calls.{on_marks, on_sets}
-
 -- ---- on the sequencing set
 use Rattle.simulation_laws.specs.Kept.{Keeps, made_kept, down_kept, if_kept, sqs_kept}
 

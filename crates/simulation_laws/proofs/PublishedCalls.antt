@@ -34,7 +34,6 @@ use Rattle.simulation_laws.proofs.RankLaws.{rank_behind}
 use Rattle.simulation_laws.specs.ActivateLaws.{error_is}
 use Rattle.simulation_laws.proofs.ActivateLaws.{activate_is}
 use Rattle.simulation_laws.proofs.Meaning.{hold_means, passivate_means, wait_means, cancel_means, finish_means, timed_means}
-
 -- ---- the plain machine's calls are the published procedures
 use Rattle.simulation_laws.specs.PublishedCalls.{added_is}
 

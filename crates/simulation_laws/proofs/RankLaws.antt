@@ -7,7 +7,6 @@ use Rattle.axis_laws.specs.NoticeOps.{behind_all, front_all}
 use Rattle.axis_laws.specs.NoticeLaws.{from_less}
 use Rattle.axis_laws.specs.PutLaws.{behind_first, front_first}
 use Rattle.simulation_laws.specs.Published.{back_onto, follow_p, while_equal, while_later, RANK}
-
 -- ---- the notices in front of P
 use Rattle.simulation_laws.specs.RankLaws.{Upto, upto_more, order_upto, back_back}
 
