@@ -26,7 +26,7 @@ def read(path):
 def declared(text):
     """The names that a file of specs/ or proofs/ declares: what stands before a colon."""
     for line in text.split("\n"):
-        at = line.find(" : ")
+        at = (line + " ").find(" : ")
         if at < 0:
             continue
         names = line[:at].strip().split(" ")

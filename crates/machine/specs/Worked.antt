@@ -58,7 +58,7 @@ brings s lens ws = bring (calls s (fresh s) lens) ws
 
 -- with room to spare; with room for just its lines, since finished comes before full; with a byte less; in pieces, with a buffer
 -- that is too long, and one after the end
-pub worked-run :
+pub worked_run :
     brings (sheet_of worked) (65536 ∷ []) (want (line 0 2 1 ∷ line 0 2 2 ∷ line 5 3 3 ∷ line 5 3 0 ∷ []) 0 ∷ [])
     && brings (sheet_of worked) (64 ∷ []) (want (line 0 2 1 ∷ line 0 2 2 ∷ line 5 3 3 ∷ line 5 3 0 ∷ []) 0 ∷ [])
     && brings (sheet_of worked) (63 ∷ []) (want (line 0 2 1 ∷ line 0 2 2 ∷ line 5 3 3 ∷ []) 200 ∷ [])
@@ -66,7 +66,7 @@ pub worked-run :
     (want (line 0 2 1 ∷ []) 200 ∷ want [] 200 ∷ want [] 1 ∷ want (line 0 2 2 ∷ line 5 3 3 ∷ line 5 3 0 ∷ []) 0 ∷ want [] 0 ∷ [])
     ≡ true
 unfolding brings
-worked-run = refl
+worked_run = refl
 
 -- ---- records 12 and 13, a first member for an operand, and a refused step
 
@@ -83,12 +83,12 @@ branching =
       records = does 2 12 1 3 (pos 0) ∷ does 2 1 65537 0 (pos 0) ∷ does 1 4 4 1 (pos 0) ∷ [];
     }
 
-pub branching-run :
+pub branching_run :
     brings branching (64 ∷ 160 ∷ 15 ∷ 16 ∷ [])
     (want (line 0 2 1 ∷ line 0 2 3 ∷ line 0 2 1 ∷ line 0 2 2 ∷ []) 200 ∷ want [] 3 ∷ want [] 200 ∷ want [] 3 ∷ [])
     ≡ true
 unfolding brings
-branching-run = refl
+branching_run = refl
 
 -- accumulator 2 grows by 3 a tick, for five ticks
 abbrev counting : Sheet
@@ -134,13 +134,13 @@ mixed =
           ∷ does 6 9 65537 0 (pos 0) ∷ does 0 1 65537 0 (pos 0) ∷ [];
     }
 
-pub mixed-run :
+pub mixed_run :
     brings mixed (128 ∷ [])
     (want (line 0 2 1 ∷ line 0 2 2 ∷ line 0 2 3 ∷ line 0 3 4 ∷ line 0 3 0 ∷ line 0 2 5 ∷ line 0 2 6 ∷ []) 0 ∷ [])
     && eqb (first_in (members_of (last_of (fresh mixed) (calls mixed (fresh mixed) (128 ∷ []))).lists.sets 1)) 5
     ≡ true
 unfolding brings
-mixed-run = refl
+mixed_run = refl
 
 -- with crates alone the first process is none: activate, cancel and a Y of none do nothing, and reactivate beside it drops the last notice
 abbrev crates : Sheet
@@ -152,7 +152,7 @@ crates =
           ∷ timed_by 6 10 5 3 65537 ∷ timed_by 0 11 6 65536 65537 ∷ [];
     }
 
-pub crates-run :
+pub crates_run :
     brings crates (160 ∷ []) (want (line 0 2 1 ∷ line 0 2 2 ∷ line 0 2 3 ∷ line 0 2 4 ∷ line 0 2 5 ∷ []) 4 ∷ []) ≡ true
 unfolding brings
-crates-run = refl
+crates_run = refl

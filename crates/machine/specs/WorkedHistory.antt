@@ -16,22 +16,22 @@ use Rattle.machine.specs.History.{How, at_first, behind, in_front, right_before,
 use Rattle.machine.specs.History.{Scheduled, scheduled, StandsTo, Beside}
 
 -- the clauses 0 to 6, with Y = 7
-pub clause-ways :
+pub clause_ways :
     how_of 0 7 ∷ how_of 1 7 ∷ how_of 2 7 ∷ how_of 3 7 ∷ how_of 4 7 ∷ how_of 5 7 ∷ how_of 6 7 ∷ []
     ≡ in_front ∷ behind ∷ behind ∷ in_front ∷ in_front ∷ right_before 7 ∷ right_after 7 ∷ []
 unfolding how_of
-clause-ways = refl
+clause_ways = refl
 
 abbrev at_step : ℕ → How → Scheduled
 at_step n h = record { by = n; how = h }
 
 -- the worked sheet: step 1 schedules process 3, and step 2, main's hold, schedules main; before them there is main's first notice
-pub worked-history :
+pub worked_history :
     scheduled (sheet_of worked) 0 2 ∷ scheduled (sheet_of worked) 2 3 ∷ scheduled (sheet_of worked) 2 2 ∷ []
     ≡ at_step 0 at_first ∷ at_step 1 behind ∷ at_step 2 behind ∷ []
 unfolding u32_at u64_at i64_at counts_of records_of start_at record_from sheet_of plain.hold plain.passivate plain.finish due_for placed no_effect
     timed fresh lists_after perform operand_of call_of next_of call_now next_now step turn uncut how_of clause_placing list_placing placing scheduled
-worked-history = refl
+worked_history = refl
 
 -- ---- the named situations 4 and 5, with M, A, B and C as 2, 3, 4 and 5: M0 A5 B5, then C at 5 prior: M0 C5 A5 B5
 

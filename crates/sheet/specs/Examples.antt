@@ -17,7 +17,7 @@ worked =
     ∷ 0 ∷ 0 ∷ 0 ∷ 0 ∷ 6 ∷ 0 ∷ 0 ∷ 0 ∷ 0 ∷ 0 ∷ 0 ∷ 0 ∷ 0 ∷ 0 ∷ 0 ∷ 0 ∷ 10 ∷ 0 ∷ 0 ∷ 0 ∷ 0 ∷ 0 ∷ 0 ∷ 0
     ∷ 0 ∷ 0 ∷ 0 ∷ 0 ∷ 4 ∷ 0 ∷ 0 ∷ 0 ∷ 0 ∷ 0 ∷ 1 ∷ 0 ∷ 1 ∷ 0 ∷ 0 ∷ 0 ∷ 0 ∷ 0 ∷ 0 ∷ 0 ∷ 0 ∷ 0 ∷ 0 ∷ 0 ∷ []
 
-pub worked-says :
+pub worked_says :
     sheet_of worked
     ≡ record {
       counts = record { heads = 1; processes = 2; plains = 0 };
@@ -29,7 +29,7 @@ pub worked-says :
           ∷ [];
     }
 unfolding sheet_of counts_of records_of start_at record_from u32_at u64_at i64_at
-worked-says = refl
+worked_says = refl
 
 -- which of some sheets are accepted
 abbrev verdicts : List (List ℕ) → List Bool
@@ -50,18 +50,18 @@ unfolding accepted sized size_fine layout_fine record_fine fields_fine may_hold 
 wrong_sizes = refl
 
 -- a start of 4, a next of 4, the operations 0 and 14, clause 7, either of the two zero bytes
-pub wrong-numbers :
+pub wrong_numbers :
     verdicts (set worked 20 4 ∷ set worked 24 4 ∷ set worked 28 0 ∷ set worked 28 14 ∷ set worked 29 7 ∷ set worked 30 1
     ∷ set worked 31 1 ∷ [])
     ≡ false ∷ false ∷ false ∷ false ∷ false ∷ false ∷ false ∷ []
 unfolding accepted sized size_fine layout_fine record_fine fields_fine may_hold is_operand row_of under all_to in_limits counts_of records_of start_at
     record_from u32_at u64_at i64_at
-wrong-numbers = refl
+wrong_numbers = refl
 
 -- a y under clause 2, a t under clause 0, a clause in hold, an x in hold, the operands 4 and 65,536 + 2
-pub wrong-fields :
+pub wrong_fields :
     verdicts (set worked 36 1 ∷ set worked 29 0 ∷ set worked 53 1 ∷ set worked 56 1 ∷ set worked 32 4 ∷ set worked 80 2 ∷ [])
     ≡ false ∷ false ∷ false ∷ false ∷ false ∷ false ∷ []
 unfolding accepted sized size_fine layout_fine record_fine fields_fine may_hold is_operand row_of under all_to in_limits counts_of records_of start_at
     record_from u32_at u64_at i64_at
-wrong-fields = refl
+wrong_fields = refl
