@@ -1,14 +1,13 @@
 -- Within what is required nothing overflows, and an accepted update leaves an accumulator that is as required from then on.
-use Rattle.std.specs.Prelude.{ℕ, zero, suc, ◌-◌, ◌*◌, ◌≤◌, ◌<◌, ◌≡◌, refl, true, false, T, ltb, ℤ, pos, negsuc, nat_abs, ◌+ℤ◌, ◌-ℤ◌, ◌*ℤ◌}
-use Rattle.std.proofs.Common.{sym, ◌∙◌, subst, arith, mul-le-mul, le-leb, ltb→lt, SFits, to_z, of_z}
-use Rattle.std.specs.Int.Signed.{le_z}
+use Rattle.std.specs.Prelude.{ℕ, ◌≤◌, ◌<◌, ◌≡◌, true, false, ℤ, pos, nat_abs, ◌+ℤ◌, ◌-ℤ◌, ◌*ℤ◌}
+use Rattle.std.proofs.Common.{sym, ◌∙◌, subst, arith, SFits, to_z, of_z}
 use Rattle.std.specs.Int.{w64}
 use Rattle.ring_laws.specs.Lists.{below, test, clash}
 use Rattle.model.specs.Counts.{limit}
 use Rattle.model.specs.declared.Refusal.TheVariants.{Accumulator as NotAsRequired}
 use Rattle.accum_laws.specs.declared.Accumulator.{Accumulator}
 use Rattle.accum_laws.specs.declared.Updated.TheVariants.{To, Refused}
-use Rattle.accum_laws.specs.Signed.{abs_add, abs_mul, by_test, fits_abs, kept}
+use Rattle.accum_laws.specs.Signed.{fits_abs, kept}
 use Rattle.accum_laws.specs.Update.{may_update, grown_of, updated_of, Required, Growable, May, may_says, says_may, updated_to}
 use Rattle.accum_laws.specs.Update.{updated_not}
 use Rattle.accum_laws.specs.Keeps.{grown_required}

@@ -1,13 +1,10 @@
 -- What a pick of an element promises, and what is then done to the list of structs.
-use Rattle.std.specs.Prelude.{ℕ, ◌-◌, ◌≤◌, ◌<◌, ◌≡◌, Bool, true, false, List, length, get_or, set, ℤ}
+use Rattle.std.specs.Prelude.{ℕ, ◌-◌, ◌≡◌, true, false, List, length, set, ℤ}
 use Rattle.std.proofs.Math.Path.{refl, sym, ap}
 use Rattle.std.proofs.Common.{◌∙◌, subst, arith}
-use Rattle.std.proofs.lemmas.List.{set-get_or}
 use Rattle.ring_laws.specs.Lists.{clash}
 use Rattle.model.specs.declared.Counts.{Counts}
-use Rattle.model.specs.declared.Refusal.{Refusal}
-use Rattle.model.specs.Counts.{limit}
-use Rattle.model.specs.declared.answer.Answer.TheVariants.{Done, Refused as Turned}
+use Rattle.model.specs.declared.answer.Answer.TheVariants.{Done}
 use Rattle.model.specs.declared.verdict.Verdict.{Verdict}
 use Rattle.model.specs.declared.verdict.Verdict.TheVariants.{Fine, Refused as Judged}
 use Rattle.model_laws.specs.Tables.{Tables}
@@ -15,13 +12,10 @@ use Rattle.model_laws.specs.Now.{half, time_of}
 use Rattle.accum_laws.specs.declared.Accumulator.{Accumulator}
 use Rattle.accum_laws.specs.declared.Kept.{Kept}
 use Rattle.accum_laws.specs.declared.Picked.{Picked}
-use Rattle.accum_laws.specs.declared.Updated.{Updated}
-use Rattle.accum_laws.specs.declared.Updated.TheVariants.{To, Refused}
 use Rattle.accum_laws.specs.Update.{updated_of}
-use Rattle.accum_laws.specs.Keeps.{zero_accumulator}
 use Rattle.accum_laws.specs.Triples.{numbered, list_after, updated_at}
-use Rattle.accum_laws.specs.Calls.{kept_of, accum_one, count_fine, number_fine, list_judged, listing, accum_at, picking, pick_of}
-use Rattle.accum_laws.specs.Promise.{ListPassed, list_passed, number_in, time_in}
+use Rattle.accum_laws.specs.Calls.{accum_one, count_fine, number_fine, list_judged, listing, accum_at, picking, pick_of}
+use Rattle.accum_laws.specs.Promise.{list_passed, number_in, time_in}
 use Rattle.accum_laws.specs.Picks.{PickFound, kept_listed}
 
 found_by : (c : Counts) (t : Tables) (l : List Accumulator) (k : ℕ) → list_judged (count_fine (length l)) (number_fine (length l) k) c t ≡ Fine

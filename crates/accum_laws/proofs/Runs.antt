@@ -1,9 +1,8 @@
 -- What holds of lists of accumulators: the two forms of a list agree, and in a run that starts with zeros refusal 7 can only come
 -- from c + d.
-use Rattle.std.specs.Prelude.{ℕ, zero, suc, ◌-◌, ◌*◌, ◌≤◌, ◌<◌, ◌≡◌, refl, Bool, true, false, ◌&&◌, List, length, get_or, set, replicate, ℤ, nat_abs, ◌+ℤ◌}
-use Rattle.std.proofs.Common.{ap, ◌∙◌, subst, get_or-set_same, get_or-set_other, eq-eqb}
-use Rattle.std.proofs.Math.Seq.{set_out}
-use Rattle.ring_laws.specs.Lists.{below, decide, clash}
+use Rattle.std.specs.Prelude.{ℕ, ◌-◌, ◌≤◌, ◌<◌, ◌≡◌, refl, Bool, true, false, List, length, get_or, ℤ, nat_abs, ◌+ℤ◌}
+use Rattle.std.proofs.Common.{ap, ◌∙◌}
+use Rattle.ring_laws.specs.Lists.{clash}
 use Rattle.model.specs.declared.Counts.{Counts}
 use Rattle.model.specs.declared.Refusal.{Refusal}
 use Rattle.model.specs.declared.Refusal.TheVariants.{Accumulator as NotAsRequired}
@@ -15,12 +14,12 @@ use Rattle.model_laws.specs.Now.{half, time_of}
 use Rattle.accum_laws.specs.declared.Accumulator.{Accumulator}
 use Rattle.accum_laws.specs.declared.Updated.{Updated}
 use Rattle.accum_laws.specs.declared.Updated.TheVariants.{To, Refused}
-use Rattle.accum_laws.specs.Update.{updated_of, Required}
-use Rattle.accum_laws.specs.Keeps.{zero_accumulator, zeros_required, required_later}
+use Rattle.accum_laws.specs.Update.{updated_of}
+use Rattle.accum_laws.specs.Keeps.{zero_accumulator, required_later}
 use Rattle.accum_laws.proofs.Keeps.{accepted_required, refused_rate}
 use Rattle.accum_laws.specs.Flat.{updated_in}
-use Rattle.accum_laws.specs.Triples.{flat, flattened, flat_length, flat_updated, numbered, list_after, updated_at}
-use Rattle.accum_laws.specs.Calls.{count_fine, list_fine, number_fine, list_judged, changing, listing, accum_listed, accum_at}
+use Rattle.accum_laws.specs.Triples.{flat, flattened, flat_updated, numbered, list_after, updated_at}
+use Rattle.accum_laws.specs.Calls.{count_fine, number_fine, list_judged, changing, listing, accum_listed, accum_at}
 -- ---- the flat list and the list of structs
 use Rattle.accum_laws.specs.Runs.{flat_fine, Each, set_each}
 

@@ -1,13 +1,9 @@
 -- Accum on one accumulator, over whole numbers: "a grows by c × (time − b), b becomes time, c grows by d".
-use Rattle.std.specs.Prelude.{ℕ, ◌*◌, ◌≤◌, ◌<◌, ◌≡◌, refl, Bool, true, false, ◌&&◌, T, leb, ℤ, pos, negsuc, nat_abs, ◌+ℤ◌, ◌-ℤ◌, ◌*ℤ◌, if◌then◌else◌}
-use Rattle.std.proofs.Common.{sym, ◌∙◌, subst, arith, not-suc-le-zero}
-use borrow.Author.Tests.{le-leb, lt-leb, ltb-true, leb-true}
-use Rattle.std.specs.Int.Signed.{le_z, lt_z}
-use Rattle.model.specs.Counts.{limit, both}
-use Rattle.model.specs.declared.Refusal.TheVariants.{Accumulator as NotAsRequired}
+use Rattle.std.specs.Prelude.{ℕ, ◌*◌, ◌≤◌, ◌<◌, ◌≡◌, true, false, leb, ℤ, pos, nat_abs, ◌+ℤ◌}
+use Rattle.std.proofs.Common.{sym, ◌∙◌, arith}
+use borrow.Author.Tests.{le-leb, lt-leb}
+use Rattle.std.specs.Int.Signed.{lt_z}
 use Rattle.accum_laws.specs.declared.Accumulator.{Accumulator}
-use Rattle.accum_laws.specs.declared.Updated.{Updated}
-use Rattle.accum_laws.specs.declared.Updated.TheVariants.{To, Refused}
 use Rattle.accum_laws.specs.Signed.{abs_back}
 use Rattle.accum_laws.specs.Update.{may_update, not_started, started}
 

@@ -1,19 +1,14 @@
 -- Accumulators as structs and the same as words: a copy from the one list to the other, one accumulator after the other, and accum in both.
 use Rattle.std.specs.Prelude.{ℕ, suc, ◌+◌, ◌*◌, ◌≤◌, ◌<◌, ◌≡◌, refl, Bool, true, false, not, List, [], ◌∷◌, ◌++◌, eqb, leb, length, get_or, set, take, drop, ℤ, pos}
 use Rattle.std.proofs.Common.{sym, ap, ◌∙◌, subst, arith, length-set, take-add, drop-cons, take_all, take-suc, take-suc-set, get_or-set_same, get_or-set_other}
-use borrow.Author.Tests.{leb-true, not-true, not-false}
+use borrow.Author.Tests.{leb-true, not-false}
 use Rattle.std.proofs.lemmas.List.{take-set-le}
-use Rattle.model.specs.declared.Counts.{Counts}
-use Rattle.model.specs.declared.Refusal.TheVariants.{Size}
 use Rattle.model.specs.Counts.{both}
-use Rattle.model.specs.declared.answer.Answer.{Answer}
-use Rattle.model.specs.declared.answer.Answer.TheVariants.{Refused as Turned}
-use Rattle.model_laws.specs.Tables.{Tables}
 use Rattle.accum_laws.specs.declared.Accumulator.{Accumulator}
 use Rattle.accum_laws.specs.Keeps.{zero_accumulator}
 use Rattle.accum_laws.specs.Flat.{words_at, with_words, with_length}
-use Rattle.accum_laws.specs.Triples.{flat, flat_length, flattened}
-use Rattle.accum_laws.specs.Calls.{count_fine, list_fine, list_judged, accum_listed, accum_at}
+use Rattle.accum_laws.specs.Triples.{flat}
+use Rattle.accum_laws.specs.Calls.{count_fine, list_fine}
 use Rattle.accum_laws.specs.Promise.{words_are}
 
 pub flat_append : (xs ys : List Accumulator) → flat (xs ++ ys) ≡ flat xs ++ flat ys

@@ -1,9 +1,8 @@
 -- What a pick of an element promises, and what is then done to the list of structs.
 use Rattle.std.specs.Prelude.{ℕ, ◌-◌, ◌≤◌, ◌<◌, ◌≡◌, Bool, true, false, List, length, get_or, set, ℤ}
 use Rattle.std.proofs.Math.Path.{refl, sym, ap}
-use Rattle.std.proofs.Common.{◌∙◌, subst, arith}
+use Rattle.std.proofs.Common.{◌∙◌}
 use Rattle.std.proofs.lemmas.List.{set-get_or}
-use Rattle.ring_laws.specs.Lists.{clash}
 use Rattle.model.specs.declared.Counts.{Counts}
 use Rattle.model.specs.declared.Refusal.{Refusal}
 use Rattle.model.specs.Counts.{limit}
@@ -17,11 +16,10 @@ use Rattle.accum_laws.specs.declared.Kept.{Kept}
 use Rattle.accum_laws.specs.declared.Picked.{Picked}
 use Rattle.accum_laws.specs.declared.Updated.{Updated}
 use Rattle.accum_laws.specs.declared.Updated.TheVariants.{To, Refused}
-use Rattle.accum_laws.specs.Update.{updated_of}
 use Rattle.accum_laws.specs.Keeps.{zero_accumulator}
-use Rattle.accum_laws.specs.Triples.{numbered, list_after, updated_at}
-use Rattle.accum_laws.specs.Calls.{kept_of, accum_one, count_fine, number_fine, list_judged, listing, accum_at, picking, pick_of}
-use Rattle.accum_laws.specs.Promise.{ListPassed, list_passed, number_in, time_in}
+use Rattle.accum_laws.specs.Triples.{numbered, list_after}
+use Rattle.accum_laws.specs.Calls.{kept_of, accum_one, count_fine, number_fine, list_judged, accum_at, picking, pick_of}
+use Rattle.accum_laws.specs.Promise.{ListPassed, list_passed}
 
 module _ (c : Counts) (t : Tables) (n k : ℕ) (list number : Bool) (v : Verdict)
     (a : list ≡ count_fine n) (b : number ≡ number_fine n k) (e : v ≡ list_judged list number c t) where

@@ -1,25 +1,14 @@
 -- What holds of lists of accumulators: the two forms of a list agree, and in a run that starts with zeros refusal 7 can only come
 -- from c + d.
-use Rattle.std.specs.Prelude.{ℕ, zero, suc, ◌-◌, ◌*◌, ◌≤◌, ◌<◌, ◌≡◌, refl, Bool, true, false, ◌&&◌, List, length, get_or, set, replicate, ℤ, nat_abs, ◌+ℤ◌}
-use Rattle.std.proofs.Common.{ap, ◌∙◌, subst, get_or-set_same, get_or-set_other, eq-eqb}
+use Rattle.std.specs.Prelude.{ℕ, zero, suc, ◌*◌, ◌≡◌, refl, Bool, true, false, ◌&&◌, List, length, get_or, set, replicate}
+use Rattle.std.proofs.Common.{subst, get_or-set_same, get_or-set_other, eq-eqb}
 use Rattle.std.proofs.Math.Seq.{set_out}
-use Rattle.ring_laws.specs.Lists.{below, decide, clash}
-use Rattle.model.specs.declared.Counts.{Counts}
-use Rattle.model.specs.declared.Refusal.{Refusal}
-use Rattle.model.specs.declared.Refusal.TheVariants.{Accumulator as NotAsRequired}
-use Rattle.model.specs.declared.answer.Answer.TheVariants.{Refused as Turned}
-use Rattle.model.specs.declared.verdict.Verdict.{Verdict}
-use Rattle.model.specs.declared.verdict.Verdict.TheVariants.{Fine, Refused as Judged}
-use Rattle.model_laws.specs.Tables.{Tables}
-use Rattle.model_laws.specs.Now.{half, time_of}
+use Rattle.ring_laws.specs.Lists.{below, decide}
 use Rattle.accum_laws.specs.declared.Accumulator.{Accumulator}
-use Rattle.accum_laws.specs.declared.Updated.{Updated}
-use Rattle.accum_laws.specs.declared.Updated.TheVariants.{To, Refused}
-use Rattle.accum_laws.specs.Update.{updated_of, Required}
-use Rattle.accum_laws.specs.Keeps.{zero_accumulator, zeros_required, required_later}
-use Rattle.accum_laws.specs.Flat.{updated_in}
-use Rattle.accum_laws.specs.Triples.{flat, flattened, flat_length, flat_updated, numbered, list_after, updated_at}
-use Rattle.accum_laws.specs.Calls.{count_fine, list_fine, number_fine, list_judged, changing, listing, accum_listed, accum_at}
+use Rattle.accum_laws.specs.Update.{Required}
+use Rattle.accum_laws.specs.Keeps.{zero_accumulator, zeros_required}
+use Rattle.accum_laws.specs.Triples.{flat, flat_length}
+use Rattle.accum_laws.specs.Calls.{count_fine, list_fine}
 
 -- ---- the flat list and the list of structs
 

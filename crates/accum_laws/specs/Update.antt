@@ -1,14 +1,13 @@
 -- Accum on one accumulator, over whole numbers: "a grows by c × (time − b), b becomes time, c grows by d".
-use Rattle.std.specs.Prelude.{ℕ, ◌*◌, ◌≤◌, ◌<◌, ◌≡◌, refl, Bool, true, false, ◌&&◌, T, leb, ℤ, pos, negsuc, nat_abs, ◌+ℤ◌, ◌-ℤ◌, ◌*ℤ◌, if◌then◌else◌}
-use Rattle.std.proofs.Common.{sym, ◌∙◌, subst, arith, not-suc-le-zero}
-use borrow.Author.Tests.{le-leb, lt-leb, ltb-true, leb-true}
+use Rattle.std.specs.Prelude.{ℕ, ◌*◌, ◌≤◌, ◌≡◌, refl, Bool, true, false, ◌&&◌, T, leb, ℤ, pos, negsuc, nat_abs, ◌+ℤ◌, ◌-ℤ◌, ◌*ℤ◌, if◌then◌else◌}
+use Rattle.std.proofs.Common.{subst, arith, not-suc-le-zero}
+use borrow.Author.Tests.{le-leb, ltb-true, leb-true}
 use Rattle.std.specs.Int.Signed.{le_z, lt_z}
 use Rattle.model.specs.Counts.{limit, both}
 use Rattle.model.specs.declared.Refusal.TheVariants.{Accumulator as NotAsRequired}
 use Rattle.accum_laws.specs.declared.Accumulator.{Accumulator}
 use Rattle.accum_laws.specs.declared.Updated.{Updated}
 use Rattle.accum_laws.specs.declared.Updated.TheVariants.{To, Refused}
-use Rattle.accum_laws.specs.Signed.{abs_back}
 
 -- "Required before: 0 ≤ b ≤ time, |a| ≤ 1,000,000 × b, |c| ≤ 1,000,000", and refusal 7 for "abs(c + d) above 1,000,000"
 unfoldable pub may_update : Accumulator → ℕ → ℤ → Bool

@@ -1,5 +1,5 @@
 -- Where a notice stands that is put right before or right after another.
-use Rattle.std.specs.Prelude.{ℕ, ◌≡◌, refl, ◌≢◌, ◌⊎◌, List, [], ◌∷◌}
+use Rattle.std.specs.Prelude.{ℕ, ◌≡◌, refl, ◌≢◌, List, [], ◌∷◌}
 use Rattle.std.proofs.Common.{sym, ap, inl, inr, ⊎_elim, arith, eq-eqb, ne_eqb}
 use Rattle.ring_laws.specs.Lists.{In, decide}
 use Rattle.ring_laws.specs.Distinct.{Dist}

@@ -1,12 +1,10 @@
 -- What the procedures do to groups, and that it is what they do to the notices spelled out.
-use Rattle.std.specs.Prelude.{ℕ, ◌<◌, ◌≤◌, ◌≡◌, refl, ◌≢◌, ◌⊎◌, List, [], ◌∷◌, ◌++◌, eqb, ltb, if◌then◌else◌}
-use Rattle.std.proofs.Common.{sym, ap, ap₂, ◌∙◌, inl, inr, ⊎_elim, arith, eq-eqb, ne_eqb, lt-ltb, le-ltb, le-leb}
-use Rattle.std.proofs.lemmas.Bool.{lt-leb}
-use Rattle.ring_laws.specs.Lists.{In, without, behind, ahead, decide, below, inside, without_none, behind_none}
-use Rattle.ring_laws.specs.Distinct.{Dist, in_left, in_right, in_either}
+use Rattle.std.specs.Prelude.{ℕ, ◌<◌, ◌≤◌, ◌≡◌, refl, List, [], ◌∷◌, ◌++◌, eqb, ltb, if◌then◌else◌}
+use Rattle.std.proofs.Common.{sym, ap, inl, inr, ⊎_elim, eq-eqb, ne_eqb, lt-ltb, le-leb}
+use Rattle.ring_laws.specs.Lists.{In, without, behind, ahead, decide}
 use Rattle.axis_laws.specs.Notices.{Notice, due_of}
 use Rattle.axis_laws.specs.NoticeOps.{behind_all, front_all, before, after, dropped}
-use Rattle.axis_laws.specs.Groups.{Group, notice, group, together, spelled_out, members, Above, Rising}
+use Rattle.axis_laws.specs.Groups.{Group, notice, group, together}
 
 -- ---- definitions
 

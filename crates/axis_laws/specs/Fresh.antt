@@ -1,17 +1,16 @@
 -- The fresh axis: main alone, at 0.
-use Rattle.std.specs.Prelude.{ℕ, ◌+◌, ◌*◌, ◌-◌, ◌<◌, ◌≤◌, ◌≡◌, refl, ◌≢◌, List, [], ◌∷◌, length, get_or, take}
-use Rattle.std.proofs.Common.{sym, ap, ◌∙◌, subst, inr, arith, get_or-take, length-take-le, eqb-true, eq-eqb}
+use Rattle.std.specs.Prelude.{ℕ, ◌+◌, ◌*◌, ◌-◌, ◌<◌, ◌≤◌, ◌≡◌, refl, ◌≢◌, [], ◌∷◌, length, take}
+use Rattle.std.proofs.Common.{◌∙◌, subst, arith, get_or-take, length-take-le, eqb-true}
 use Rattle.std.proofs.Math.ListN.{get_or-eq_default}
 use Rattle.std.proofs.lemmas.Bool.{eqb-false}
-use Rattle.ring_laws.specs.Lists.{In, below, zeros}
+use Rattle.ring_laws.specs.Lists.{below, zeros}
 use Rattle.ring_laws.specs.Table.{self_linked}
 use Rattle.ring_laws.specs.Stores.{sucs, pres}
 use Rattle.ring_laws.specs.Empty.{spells_empty, length_zeros, get_or_zeros, self_length, self_s, self_p, other_s, other_p}
 use Rattle.model.specs.declared.Counts.{Counts}
-use Rattle.model.specs.Counts.{main, Allowed}
+use Rattle.model.specs.Counts.{main}
 use Rattle.axis_laws.specs.AxisRing.{axis_head}
-use Rattle.axis_laws.specs.Notices.{Process}
-use Rattle.axis_laws.specs.Groups.{Group, notice, group}
+use Rattle.axis_laws.specs.Groups.{notice}
 use Rattle.axis_laws.specs.Timeline.{Timeline, SpellsGroups}
 use Rattle.axis_laws.specs.Procedures.{behind_on}
 use Rattle.axis_laws.specs.NoticesSpelled.{half, SpellsNotices, notices_behind}

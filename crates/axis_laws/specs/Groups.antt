@@ -1,7 +1,7 @@
 -- The time axis as groups: for each distinct time the processes due then, by their places, the first of them apart. Here a notice's who is a place.
-use Rattle.std.specs.Prelude.{ℕ, ◌<◌, ◌≤◌, ◌≡◌, refl, ◌⊎◌, List, [], ◌∷◌, ◌++◌, eqb, if◌then◌else◌}
-use Rattle.std.proofs.Common.{sym, ap, ◌∙◌, inl, inr, ⊎_elim, arith, eq-eqb, ne_eqb}
-use Rattle.ring_laws.specs.Lists.{In, decide}
+use Rattle.std.specs.Prelude.{ℕ, ◌<◌, ◌≤◌, ◌≡◌, refl, List, [], ◌∷◌, ◌++◌, eqb, if◌then◌else◌}
+use Rattle.std.proofs.Common.{ap, ◌∙◌, arith, eq-eqb, ne_eqb}
+use Rattle.ring_laws.specs.Lists.{decide}
 use Rattle.axis_laws.specs.Notices.{Notice, whos, From, InOrder}
 
 pub record Group : Type 0 where

@@ -1,14 +1,14 @@
 -- The judge of the axis answers yes exactly where there are groups that the tables spell, with their times and marks.
-use Rattle.std.specs.Prelude.{ℕ, suc, ◌+◌, ◌*◌, ◌-◌, ◌<◌, ◌≤◌, ◌≡◌, refl, ◌≢◌, ◌⊎◌, Bool, true, false, ◌&&◌, List, [], ◌∷◌, ◌++◌, eqb, length, get_or, take, drop}
+use Rattle.std.specs.Prelude.{ℕ, ◌+◌, ◌*◌, ◌-◌, ◌<◌, ◌≤◌, ◌≡◌, refl, ◌≢◌, ◌⊎◌, Bool, true, false, ◌&&◌, List, [], ◌∷◌, eqb, length, get_or, take, drop}
 use Rattle.std.proofs.Common.{sym, ap, ◌∙◌, subst, inl, inr, ⊎_elim, arith, not-suc-le-zero, length-drop, get_or-take, length-take-le, take_all}
 use Rattle.std.proofs.Math.ListN.{get_or-eq_default}
 use borrow.Author.Tests.{eq-eqb, ne_eqb, eqb-true, eqb-false}
 use Rattle.model.specs.Counts.{limit, both}
 use Rattle.ring_laws.specs.Lists.{In, decide, below, inside, test, clash}
-use Rattle.ring_laws.specs.Distinct.{Dist, fits, covers, pigeon, in_left}
+use Rattle.ring_laws.specs.Distinct.{Dist, fits, covers, pigeon}
 use Rattle.ring_laws.specs.Chain.{Chain, next_in_lem}
-use Rattle.ring_laws.specs.Rings.{Head, Rings, apart, rings_cong, next_place_lem}
-use Rattle.ring_laws.specs.Stores.{sucs, pres, suc_at}
+use Rattle.ring_laws.specs.Rings.{Head, Rings, apart, rings_cong}
+use Rattle.ring_laws.specs.Stores.{sucs, pres}
 use Rattle.ring_laws.specs.Judge.{idle, busy, rings_fine}
 use Rattle.ring_laws.proofs.Busy.{idle_not, idle_zeros, zeros_idle, busy_place, place_busy, busy_dist}
 use Rattle.ring_laws.proofs.Fine.{sound, complete}
@@ -19,17 +19,16 @@ use Rattle.axis_laws.specs.Notices.{due_of}
 use Rattle.axis_laws.specs.AxisRing.{axis_head, SpellsAxis}
 use Rattle.axis_laws.specs.AxisRing.{axis_layout, axis_head_lem, axis_event}
 use Rattle.axis_laws.specs.Reading.{due_none}
-use Rattle.axis_laws.specs.Marks.{mark_fine}
 use Rattle.axis_laws.specs.Marks.{unless, mark_none, mark_idle, mark_mean}
 use Rattle.axis_laws.specs.Groups.{Group, spelled_out, members, leaders, members_are, Rising}
 use Rattle.axis_laws.specs.Outs.{lead_in, which, own_dist, own_in, later_in, later_dist}
 use Rattle.axis_laws.specs.Leads.{lead_dist}
-use Rattle.axis_laws.specs.Loops.{Loops, Neighbours, neighbours}
+use Rattle.axis_laws.specs.Loops.{neighbours}
 use Rattle.axis_laws.specs.Search.{due_own, due_later}
-use Rattle.axis_laws.specs.Timeline.{Timeline, timeline, SpellsPeers, SpellsGroups}
-use Rattle.axis_laws.specs.Ticks.{lead_none, lead_chain, lead_off}
-use Rattle.axis_laws.specs.Judge.{rounds, notice_fine, notices_fine, peers_fine, timeline_fine}
-use Rattle.axis_laws.specs.Rounds.{Own, Owns, Rounded, rounds_groups, groups_rounds}
+use Rattle.axis_laws.specs.Timeline.{Timeline, timeline, SpellsGroups}
+use Rattle.axis_laws.specs.Ticks.{lead_none}
+use Rattle.axis_laws.specs.Judge.{rounds, notices_fine, peers_fine, timeline_fine}
+use Rattle.axis_laws.specs.Rounds.{Owns, Rounded, rounds_groups, groups_rounds}
 use Rattle.axis_laws.specs.NoticeTests.{Timely, notice_idle, notice_mean, mean_notice, notices_mean, mean_notices, Dated, dated, once_of, due_dated, rising_of, next_due, lead_rise}
 
 -- the groups, with times and marks as the paper has them

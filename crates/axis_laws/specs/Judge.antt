@@ -1,5 +1,5 @@
 -- What the judge of the axis computes: "Refusal 2 is judged on the new tables." S is the next time, R and Q next and previous of one time.
-use Rattle.std.specs.Prelude.{ℕ, zero, suc, ◌+◌, ◌*◌, ◌-◌, Bool, true, false, ◌&&◌, List, eqb, leb, ltb, length, get_or, if◌then◌else◌}
+use Rattle.std.specs.Prelude.{ℕ, zero, suc, ◌+◌, ◌-◌, Bool, true, false, ◌&&◌, List, eqb, leb, ltb, length, get_or, if◌then◌else◌}
 use Rattle.ring_laws.specs.Stores.{sucs, pres}
 use Rattle.ring_laws.specs.Judge.{idle, busy, walk, rings_fine}
 use Rattle.model.specs.Counts.{limit}

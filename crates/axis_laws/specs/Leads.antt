@@ -1,9 +1,9 @@
 -- Who leads after a change, and that distinct times stay distinct.
-use Rattle.std.specs.Prelude.{ℕ, ◌<◌, ◌≤◌, ◌≡◌, refl, ◌≢◌, ◌⊎◌, List, [], ◌∷◌, ◌++◌, eqb, if◌then◌else◌}
-use Rattle.std.proofs.Common.{sym, ap, ap₂, ◌∙◌, inl, inr, ⊎_elim, arith, eq-eqb, ne_eqb, lt-ltb, le-ltb}
+use Rattle.std.specs.Prelude.{ℕ, ◌<◌, ◌≤◌, ◌≡◌, refl, List, [], ◌∷◌, ◌++◌, eqb, if◌then◌else◌}
+use Rattle.std.proofs.Common.{sym, ap, inl, inr, ⊎_elim, arith, eq-eqb, ne_eqb, lt-ltb, le-ltb}
 use Rattle.ring_laws.specs.Lists.{In, without, decide, below, without_none}
 use Rattle.ring_laws.specs.Distinct.{Dist}
-use Rattle.axis_laws.specs.Groups.{Group, group, members, leaders, Above, Rising}
+use Rattle.axis_laws.specs.Groups.{Group, members, leaders, Above, Rising}
 use Rattle.axis_laws.specs.Changes.{promoted, left_by, changed, overtaken, last_at, first_at}
 use Rattle.axis_laws.specs.Outs.{lead_in, later_dist}
 

@@ -1,11 +1,11 @@
 -- The rings of the same times, over a successor S and a predecessor P: a ring has no first place, so a change of leader changes no word.
-use Rattle.std.specs.Prelude.{ℕ, ◌≡◌, refl, ◌≢◌, ◌⊎◌, List, [], ◌∷◌, ◌++◌, eqb}
+use Rattle.std.specs.Prelude.{ℕ, ◌≡◌, refl, ◌≢◌, ◌⊎◌, List, [], ◌∷◌, ◌++◌}
 use Rattle.std.proofs.Common.{sym, ap, ◌∙◌, inl, inr, ⊎_elim, eq-eqb, ne_eqb, subst}
-use Rattle.ring_laws.specs.Lists.{In, without, behind, ahead, decide, inside, without_none, behind_none}
+use Rattle.ring_laws.specs.Lists.{In, without, ahead, decide, without_none}
 use Rattle.ring_laws.specs.Chain.{Edge, Chain, forth, back, next_in_lem, prev_in_lem, no_self, Cut, cut_chain, Put, put_chain, behind_ahead}
 use Rattle.ring_laws.specs.Distinct.{Dist, in_left, in_right}
 use Rattle.axis_laws.specs.Groups.{Group, group, members, leaders}
-use Rattle.axis_laws.specs.Changes.{promoted, left_by, changed, joined_behind, joined_ahead, overtaken}
+use Rattle.axis_laws.specs.Changes.{promoted, left_by, joined_behind, joined_ahead, overtaken}
 use Rattle.axis_laws.specs.Outs.{lead_in, which, own_not_later, own_in, later_in, later_dist, own_dist, ahead_absent}
 use Rattle.axis_laws.specs.Leads.{others_of}
 

@@ -1,5 +1,5 @@
 -- nextev on the tables: the process of the notice after x's, none where x's is the last, as the list of notices has it.
-use Rattle.std.specs.Prelude.{ℕ, ◌+◌, ◌-◌, ◌<◌, ◌≤◌, ◌≡◌, refl, ◌≢◌, ◌⊎◌, List, [], ◌∷◌, ◌++◌, eqb, if◌then◌else◌}
+use Rattle.std.specs.Prelude.{ℕ, ◌-◌, ◌≡◌, refl, ◌≢◌, List, [], ◌∷◌, ◌++◌, eqb, if◌then◌else◌}
 use Rattle.std.proofs.Common.{sym, ap, ◌∙◌, subst, inl, inr, ⊎_elim, arith, eq-eqb, ne_eqb}
 use Rattle.ring_laws.specs.Lists.{In, decide}
 use Rattle.model.specs.declared.Counts.{Counts}
@@ -7,8 +7,8 @@ use Rattle.model.specs.Counts.{linkage_at}
 use Rattle.axis_laws.specs.Notices.{Notice, whos}
 use Rattle.axis_laws.specs.Orders.{Next}
 use Rattle.axis_laws.specs.NoticeOps.{next_after}
-use Rattle.axis_laws.specs.Groups.{spelled_out, members, members_are}
-use Rattle.axis_laws.specs.Lowered.{lowered, Over}
+use Rattle.axis_laws.specs.Groups.{members_are}
+use Rattle.axis_laws.specs.Lowered.{lowered}
 use Rattle.axis_laws.specs.Timeline.{Timeline, next_of}
 use Rattle.axis_laws.specs.NoticesSpelled.{half, SpellsNotices, is_process_lem}
 use Rattle.axis_laws.specs.TimelineReading.{next_is}

@@ -1,8 +1,8 @@
 -- The judge's tests of single places: their clauses and what they mean; times along the rings.
-use Rattle.std.specs.Prelude.{ℕ, zero, suc, ◌+◌, ◌-◌, ◌<◌, ◌≤◌, ◌≡◌, ◌≢◌, ◌⊎◌, Bool, true, false, List, [], ◌∷◌, ◌++◌, eqb, leb, ltb, get_or}
+use Rattle.std.specs.Prelude.{ℕ, zero, suc, ◌<◌, ◌≤◌, ◌≡◌, ◌≢◌, true, false, List, [], ◌∷◌, eqb, ltb, get_or}
 use Rattle.std.proofs.Math.Path.{refl}
 use Rattle.std.proofs.Common.{sym, ap, ◌∙◌, inl, inr, ⊎_elim, arith}
-use borrow.Author.Tests.{eq-eqb, ne_eqb, lt-ltb, le-ltb, le-leb, lt-leb, ltb-true, eqb-true}
+use borrow.Author.Tests.{eq-eqb, ne_eqb, lt-ltb, le-ltb, le-leb, lt-leb, ltb-true}
 use Rattle.model.specs.Counts.{limit}
 use Rattle.ring_laws.specs.Lists.{In, decide, below, test, clash}
 use Rattle.ring_laws.specs.Distinct.{Dist, dist_append}
@@ -11,12 +11,12 @@ use Rattle.ring_laws.specs.Unique.{dist_chain}
 use Rattle.ring_laws.specs.Judge.{idle}
 use Rattle.axis_laws.specs.Marks.{mark_fine}
 use Rattle.axis_laws.specs.Notices.{due_of}
-use Rattle.axis_laws.specs.Groups.{Group, notice, spelled_out, members, leaders, Above, Rising}
-use Rattle.axis_laws.specs.Outs.{lead_in, which, own_in, own_not_later, later_in, later_dist}
+use Rattle.axis_laws.specs.Groups.{Group, spelled_out, members, leaders, Above, Rising}
+use Rattle.axis_laws.specs.Outs.{lead_in, which, own_in, later_in, later_dist}
 use Rattle.axis_laws.specs.Loops.{Loops, neighbours}
 use Rattle.axis_laws.specs.Search.{due_later, due_own}
 use Rattle.axis_laws.specs.Judge.{notice_fine, notices_fine}
-use Rattle.axis_laws.specs.Rounds.{Own, Owns}
+use Rattle.axis_laws.specs.Rounds.{Owns}
 
 -- ---- a place
 

@@ -1,6 +1,6 @@
 -- The judge of the axis answers yes exactly where there are notices and terminated processes that the tables spell: refusal 2 "on the new tables".
-use Rattle.std.specs.Prelude.{ℕ, suc, ◌+◌, ◌*◌, ◌-◌, ◌<◌, ◌≤◌, ◌≡◌, refl, ◌≢◌, ◌⊎◌, Bool, true, false, List, [], ◌∷◌, ◌++◌, eqb, length, get_or}
-use Rattle.std.proofs.Common.{sym, ap, ◌∙◌, subst, inl, inr, ⊎_elim, arith, not-suc-le-zero, eq-eqb, ne_eqb}
+use Rattle.std.specs.Prelude.{ℕ, suc, ◌+◌, ◌*◌, ◌-◌, ◌<◌, ◌≤◌, ◌≡◌, refl, ◌≢◌, true, List, [], ◌∷◌, ◌++◌, length, get_or}
+use Rattle.std.proofs.Common.{sym, ap, ◌∙◌, subst, inl, inr, ⊎_elim, arith, eq-eqb, ne_eqb}
 use Rattle.model.specs.declared.Counts.{Counts}
 use Rattle.model.specs.Counts.{limit, main}
 use Rattle.ring_laws.specs.Lists.{In, decide, test}
@@ -11,8 +11,8 @@ use Rattle.axis_laws.specs.Reading.{ended_of, ended_mark, mark_is}
 use Rattle.axis_laws.specs.Groups.{Group, notice, together, spelled_out, members, members_are}
 use Rattle.axis_laws.specs.Outs.{later_in, later_dist}
 use Rattle.axis_laws.specs.Search.{due_own, due_later}
-use Rattle.axis_laws.specs.Lowered.{lowered, Over}
-use Rattle.axis_laws.specs.Timeline.{Timeline, SpellsGroups}
+use Rattle.axis_laws.specs.Lowered.{lowered}
+use Rattle.axis_laws.specs.Timeline.{Timeline}
 use Rattle.axis_laws.specs.NoticesSpelled.{half, SpellsNotices, place_in, in_place, times_at}
 use Rattle.axis_laws.specs.Judge.{timeline_fine}
 use Rattle.axis_laws.specs.GroupsJudged.{GroupsSpelled, notices_sound, notices_complete}

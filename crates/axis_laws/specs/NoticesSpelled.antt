@@ -1,6 +1,6 @@
 -- Tables that spell a list of notices, stated by the list alone, and the procedures on them: they do to the list what the one-ring axis's do.
-use Rattle.std.specs.Prelude.{ℕ, ◌+◌, ◌-◌, ◌<◌, ◌≤◌, ◌≡◌, refl, ◌≢◌, ◌⊎◌, List, [], ◌∷◌, length, get_or}
-use Rattle.std.proofs.Common.{sym, ap, ◌∙◌, subst, inl, inr, ⊎_elim, arith}
+use Rattle.std.specs.Prelude.{ℕ, ◌+◌, ◌-◌, ◌<◌, ◌≡◌, List, ◌∷◌, get_or}
+use Rattle.std.proofs.Common.{sym, ap, ◌∙◌, subst, ⊎_elim, arith}
 use Rattle.ring_laws.specs.Lists.{In}
 use Rattle.ring_laws.specs.Tabulate.{listed, at_table}
 use Rattle.model.specs.declared.Counts.{Counts}

@@ -1,8 +1,8 @@
 -- Tables spell one list of notices, and a list has one model's tables.
-use Rattle.std.specs.Prelude.{ℕ, suc, ◌+◌, ◌*◌, ◌-◌, ◌<◌, ◌≤◌, ◌≡◌, refl, ◌≢◌, ◌⊎◌, List, [], ◌∷◌, ◌++◌, length, get_or}
+use Rattle.std.specs.Prelude.{ℕ, suc, ◌+◌, ◌-◌, ◌≡◌, refl, ◌⊎◌, List, [], ◌∷◌, length, get_or}
 use Rattle.std.proofs.Common.{sym, ap, ◌∙◌, subst, inl, inr, ⊎_elim, arith, ext_get_or}
 use Rattle.ring_laws.specs.Lists.{In, below, inside}
-use Rattle.ring_laws.specs.Distinct.{Dist, in_left}
+use Rattle.ring_laws.specs.Distinct.{Dist}
 use Rattle.ring_laws.specs.Chain.{Chain}
 use Rattle.ring_laws.specs.Unique.{same_chain}
 use Rattle.ring_laws.specs.Stores.{sucs, pres, suc_at}
@@ -10,14 +10,14 @@ use Rattle.ring_laws.specs.Spell.{spells_one}
 use Rattle.ring_laws.specs.OneTable.{one_table}
 use Rattle.model.specs.declared.Counts.{Counts}
 use Rattle.axis_laws.specs.Notices.{Notice, due_of}
-use Rattle.axis_laws.specs.AxisRing.{axis_head, SpellsAxis}
+use Rattle.axis_laws.specs.AxisRing.{axis_head}
 use Rattle.axis_laws.specs.AxisRing.{axis_head_lem}
-use Rattle.axis_laws.specs.Groups.{Group, group, spelled_out, members, leaders, groups_of}
+use Rattle.axis_laws.specs.Groups.{Group, group, spelled_out, members, leaders}
 use Rattle.axis_laws.specs.Outs.{which, own_in, later_in, later_dist, own_dist}
 use Rattle.axis_laws.specs.Search.{due_own, due_later}
 use Rattle.axis_laws.specs.Loops.{Loops}
 use Rattle.axis_laws.specs.NoticeTests.{Dated}
-use Rattle.axis_laws.specs.Lowered.{lowered, low_one}
+use Rattle.axis_laws.specs.Lowered.{low_one}
 use Rattle.axis_laws.specs.Timeline.{Timeline, SpellsPeers, SpellsGroups}
 use Rattle.axis_laws.specs.NoticesSpelled.{half, SpellsNotices, groups_are, times_listed}
 

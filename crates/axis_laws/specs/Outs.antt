@@ -1,13 +1,13 @@
 -- The procedures' changes of groups, spelled out, are their changes of notices.
-use Rattle.std.specs.Prelude.{ℕ, ◌<◌, ◌≤◌, ◌≡◌, refl, ◌≢◌, ◌⊎◌, List, [], ◌∷◌, ◌++◌, eqb, ltb}
+use Rattle.std.specs.Prelude.{ℕ, ◌≡◌, refl, ◌≢◌, List, [], ◌∷◌, ◌++◌}
 use Rattle.std.proofs.Common.{sym, ap, ap₂, ◌∙◌, inl, inr, ⊎_elim, arith, eq-eqb, ne_eqb, lt-ltb, le-ltb, le-leb}
 use Rattle.std.proofs.lemmas.Bool.{lt-leb}
-use Rattle.ring_laws.specs.Lists.{In, without, behind, ahead, decide, below, inside, without_none, behind_none}
+use Rattle.ring_laws.specs.Lists.{In, without, ahead, decide, below, without_none, behind_none}
 use Rattle.ring_laws.specs.Distinct.{Dist, in_left, in_right, in_either}
 use Rattle.axis_laws.specs.Notices.{Notice, due_of}
 use Rattle.axis_laws.specs.NoticeOps.{behind_all, front_all, before, after, dropped}
 use Rattle.axis_laws.specs.Groups.{Group, notice, group, together, spelled_out, members, leaders, Above, Rising}
-use Rattle.axis_laws.specs.Changes.{promoted, left_by, changed, joined_behind, joined_ahead, overtaken, last_at, first_at, together_append, drop_all, after_here, before_here, after_past, before_past, due_past, due_here, behind_past, front_past}
+use Rattle.axis_laws.specs.Changes.{promoted, left_by, joined_behind, joined_ahead, overtaken, last_at, first_at, together_append, drop_all, after_here, before_here, after_past, before_past, due_past, due_here, behind_past, front_past}
 
 -- ---- distinct places
 

@@ -1,20 +1,19 @@
 -- Unlinking and linking on the rings of the same times.
-use Rattle.std.specs.Prelude.{ℕ, ◌+◌, ◌*◌, ◌-◌, ◌<◌, ◌≡◌, ◌≢◌, ◌⊎◌, List, [], ◌∷◌, length, set}
+use Rattle.std.specs.Prelude.{ℕ, ◌+◌, ◌*◌, ◌<◌, ◌≡◌, ◌≢◌, List, [], ◌∷◌, length}
 use Rattle.std.proofs.Math.Path.{refl, ap}
-use Rattle.std.proofs.Common.{sym, ◌∙◌, subst, inl, inr, ⊎_elim, arith, eq-eqb, ne_eqb}
+use Rattle.std.proofs.Common.{sym, ◌∙◌, subst, inl, inr, arith, eq-eqb, ne_eqb}
 use Rattle.std.proofs.Math.ListN.{get_or, length-set}
 use Rattle.ring_laws.specs.Lists.{In, decide, inside, without_none}
-use Rattle.ring_laws.specs.Distinct.{Dist, in_left, in_right}
-use Rattle.ring_laws.specs.Chain.{Cut, Put}
+use Rattle.ring_laws.specs.Distinct.{Dist}
 use Rattle.ring_laws.specs.Table.{cut, join, join_before, unlinked, linked_behind, linked_before, self_linked}
 use Rattle.ring_laws.specs.Stores.{sucs, pres, suc_at, stores, cut_is, cut_x, join_is, before_is}
 use Rattle.ring_laws.specs.Empty.{self_length, self_s, self_p, other_s, other_p}
-use Rattle.axis_laws.specs.Notices.{Notice, whos}
+use Rattle.axis_laws.specs.Notices.{whos}
 use Rattle.axis_laws.specs.NoticeOps.{dropped}
-use Rattle.axis_laws.specs.NoticeLaws.{Ins, ins_new, ins_old, drop_in, drop_gone, drop_old}
+use Rattle.axis_laws.specs.NoticeLaws.{Ins, ins_new, ins_old, drop_in, drop_old}
 use Rattle.axis_laws.specs.Groups.{Group, notice, group, spelled_out, members, leaders, members_are}
 use Rattle.axis_laws.specs.Changes.{left_by, joined_behind, joined_ahead, overtaken}
-use Rattle.axis_laws.specs.Outs.{out_left, own_in, later_in, behind_absent}
+use Rattle.axis_laws.specs.Outs.{out_left, own_in, later_in}
 use Rattle.axis_laws.specs.Loops.{Loops, Neighbours, neighbours, same_loops, gone_loops, cut_loops, put_loops, behind_before, front_loops}
 use Rattle.axis_laws.specs.Timeline.{SpellsPeers}
 

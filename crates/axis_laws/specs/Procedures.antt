@@ -1,10 +1,10 @@
 -- The statements of the sequencing procedures on the tables of the axis, in the code's own shape: m is P + 2, the axis's own head stands at m - 1,
 -- and a process's notice at its place.
-use Rattle.std.specs.Prelude.{ℕ, suc, ◌+◌, ◌-◌, Bool, true, false, List, eqb, get_or, set, if◌then◌else◌}
+use Rattle.std.specs.Prelude.{ℕ, suc, ◌-◌, Bool, false, List, eqb, get_or, set, if◌then◌else◌}
 use Rattle.ring_laws.specs.Table.{unlinked, linked_behind, linked_before, self_linked}
 use Rattle.axis_laws.specs.Seek.{found_on}
 use Rattle.axis_laws.specs.Swap.{handed_over}
-use Rattle.axis_laws.specs.Timeline.{Timeline, first_of, leads}
+use Rattle.axis_laws.specs.Timeline.{Timeline}
 
 -- ---- x's notice goes; s is the next of its time
 

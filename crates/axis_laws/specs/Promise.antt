@@ -1,11 +1,11 @@
 -- What the functions on the table of 4 × m words ask and promise: its two halves are tables of rings.
-use Rattle.std.specs.Prelude.{ℕ, suc, ◌+◌, ◌*◌, ◌-◌, ◌<◌, ◌≤◌, ◌≡◌, refl, ◌≢◌, Bool, List, [], ◌∷◌, ◌++◌, length, get_or, set, take, drop}
-use Rattle.std.proofs.Common.{sym, ap, ap₂, ◌∙◌, subst, arith, length-append, length-take, length-drop, length-set, drop_of_length-le, get_or-take, get_or-drop, take_at, drop_at, length-take-le, get_or-append-add, get_or-set_same, get_or-set_other, take_all}
+use Rattle.std.specs.Prelude.{ℕ, ◌+◌, ◌*◌, ◌-◌, ◌<◌, ◌≡◌, refl, ◌≢◌, Bool, List, [], ◌∷◌, ◌++◌, length, get_or, set, take, drop}
+use Rattle.std.proofs.Common.{sym, ap, ◌∙◌, subst, arith, length-append, length-drop, length-set, drop_of_length-le, get_or-take, get_or-drop, take_at, drop_at, length-take-le, get_or-append-add, get_or-set_same, get_or-set_other, take_all}
 use Rattle.std.proofs.Math.ListN.{get_or-eq_default, get_or-append}
 use Rattle.std.proofs.Math.Seq.{set_out}
 use borrow.Author.Tests.{eq-eqb, ne_eqb}
 use Rattle.ring_laws.specs.Lists.{below, decide}
-use Rattle.ring_laws.specs.Table.{Sound, Made, unlinked, linked_behind, linked_before, self_linked}
+use Rattle.ring_laws.specs.Table.{Sound, Made, unlinked, self_linked}
 use Rattle.axis_laws.specs.Swap.{handed_over}
 use Rattle.axis_laws.specs.Timeline.{Timeline, timeline, next_of, lone}
 use Rattle.axis_laws.specs.Procedures.{ticks_left, shares}

@@ -1,7 +1,6 @@
 -- What the core functions need of tables that were judged fine: four parts of m words, every word a place, and a first notice.
-use Rattle.std.specs.Prelude.{ℕ, ◌+◌, ◌*◌, ◌-◌, ◌<◌, ◌≤◌, ◌≡◌, refl, List, [], ◌∷◌, ◌++◌, length, get_or, take, drop}
-use Rattle.std.proofs.Common.{sym, ap, ◌∙◌, subst, inl, arith, take-append-drop}
-use Rattle.std.proofs.Math.ListN.{get_or-eq_default}
+use Rattle.std.specs.Prelude.{ℕ, ◌+◌, ◌*◌, ◌-◌, ◌<◌, ◌≤◌, ◌≡◌, refl, List, ◌∷◌, length, get_or, take, drop}
+use Rattle.std.proofs.Common.{subst, inl, arith, take-append-drop}
 use Rattle.ring_laws.specs.Lists.{In, below, inside}
 use Rattle.ring_laws.specs.Table.{Sound}
 use Rattle.ring_laws.specs.Stores.{sucs, pres, suc_at}
@@ -11,7 +10,7 @@ use Rattle.axis_laws.specs.Notices.{Notice}
 use Rattle.axis_laws.specs.AxisRing.{axis_head}
 use Rattle.axis_laws.specs.Groups.{Group, members, leaders}
 use Rattle.axis_laws.specs.Loops.{neighbours}
-use Rattle.axis_laws.specs.Timeline.{Timeline, timeline, SpellsPeers, SpellsGroups, first_of}
+use Rattle.axis_laws.specs.Timeline.{timeline, SpellsPeers, SpellsGroups, first_of}
 use Rattle.axis_laws.specs.Ticks.{in_m}
 use Rattle.axis_laws.specs.NoticesSpelled.{half, SpellsNotices, is_process_lem}
 use Rattle.axis_laws.specs.TimelineReading.{current_is}

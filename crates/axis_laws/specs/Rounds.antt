@@ -1,14 +1,14 @@
 -- The walk round each time's ring, along the ring of times: it ends well exactly where there are groups, and all are counted.
 use Prim.Native.Nat.{ℕ, zero, suc, ◌+◌, ◌-◌, ◌<◌, ◌≤◌}
-use Rattle.std.specs.Prelude.{◌≡◌, ◌≢◌, ◌⊎◌, Bool, true, false, List, [], ◌∷◌, ◌++◌, eqb, length}
+use Rattle.std.specs.Prelude.{◌≡◌, ◌≢◌, Bool, true, false, List, [], ◌∷◌, eqb, length}
 use Rattle.std.proofs.Math.Path.{refl}
-use Rattle.std.proofs.Common.{sym, ap, ap₂, ◌∙◌, inl, inr, ⊎_elim, not-suc-le-zero, length-append}
+use Rattle.std.proofs.Common.{sym, ap, ◌∙◌, inl, inr, ⊎_elim, not-suc-le-zero, length-append}
 use native.Mathlib.Omega.{arith}
 use borrow.Author.Tests.{eq-eqb, ne_eqb, eqb-true}
 use Rattle.ring_laws.specs.Lists.{In, decide, clash}
 use Rattle.ring_laws.specs.Chain.{Chain}
 use Rattle.ring_laws.specs.Judge.{allowed, step, walk}
-use Rattle.ring_laws.specs.RingWalk.{WalkPassed, walk_broken, walk_back, walk_short, walk_on, step_not, step_is, allowed_head, mean_allowed}
+use Rattle.ring_laws.specs.RingWalk.{WalkPassed, walk_broken, walk_back, walk_on, step_not, step_is, allowed_head, mean_allowed}
 use Rattle.ring_laws.proofs.RingWalk.{walk_chain}
 use Rattle.axis_laws.specs.Groups.{Group, group, members, leaders}
 use Rattle.axis_laws.specs.Loops.{Loops}

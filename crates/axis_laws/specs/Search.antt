@@ -1,12 +1,12 @@
 -- The search among distinct times: what it finds, and what is put in there.
-use Rattle.std.specs.Prelude.{ℕ, suc, ◌+◌, ◌-◌, ◌<◌, ◌≤◌, ◌≡◌, refl, ◌≢◌, ◌⊎◌, true, false, List, [], ◌∷◌, ◌++◌, eqb, ltb, length, get_or, if◌then◌else◌}
-use Rattle.std.proofs.Common.{sym, ap, ap₂, ◌∙◌, subst, inl, inr, ⊎_elim, arith, get_or-take, eq-eqb, ne_eqb, lt-ltb, le-ltb}
-use Rattle.ring_laws.specs.Lists.{In, behind, ahead, decide, below, behind_head, ahead_end}
+use Rattle.std.specs.Prelude.{ℕ, suc, ◌-◌, ◌<◌, ◌≤◌, ◌≡◌, refl, ◌≢◌, ◌⊎◌, List, [], ◌∷◌, ◌++◌, ltb, length, get_or, if◌then◌else◌}
+use Rattle.std.proofs.Common.{sym, ap, ap₂, ◌∙◌, subst, inl, inr, ⊎_elim, arith, eq-eqb, ne_eqb, lt-ltb, le-ltb}
+use Rattle.ring_laws.specs.Lists.{In, behind, decide, below, behind_head, ahead_end}
 use Rattle.ring_laws.specs.Distinct.{Dist}
 use Rattle.ring_laws.specs.Chain.{Chain}
 use Rattle.ring_laws.specs.Stores.{sucs, pres}
 use Rattle.model.specs.declared.Counts.{Counts}
-use Rattle.axis_laws.specs.Notices.{Notice, due_of, whos, places, From, InOrder}
+use Rattle.axis_laws.specs.Notices.{due_of, places, From, InOrder}
 use Rattle.axis_laws.specs.Reading.{Timed}
 use Rattle.axis_laws.specs.Seek.{seek_from}
 use Rattle.axis_laws.specs.ByDue.{spot_in}

@@ -1,9 +1,9 @@
 -- The short way of a process that is alone at its time: only the ring of times changes, and its own ring where it joins others. It makes what taking
 -- its notice away and putting it back makes, with nine stores for sixteen.
-use Prim.Native.Nat.{ℕ, suc, ◌+◌, ◌*◌, ◌-◌, ◌<◌, ◌≤◌}
-use Rattle.std.specs.Prelude.{◌≡◌, refl, ◌≢◌, ◌⊎◌, Bool, length, if◌then◌else◌}
+use Prim.Native.Nat.{ℕ, suc, ◌+◌, ◌-◌, ◌<◌}
+use Rattle.std.specs.Prelude.{◌≡◌, refl, ◌≢◌, Bool, if◌then◌else◌}
 use Rattle.std.proofs.Math.Path.{sym, ap, subst}
-use Rattle.std.proofs.Common.{ap₂, ◌∙◌, inl, inr, ⊎_elim, arith, get_or-take, get_or-set_other, set-set}
+use Rattle.std.proofs.Common.{◌∙◌, inl, ⊎_elim, arith, get_or-take, get_or-set_other, set-set}
 use Rattle.std.proofs.Math.Bool.{true, false}
 use mathlib.Core.List.{List, [], ◌∷◌}
 use Rattle.std.proofs.Math.Dec.{eqb}
@@ -13,18 +13,16 @@ use Rattle.std.proofs.Math.Seq.{set-get_or}
 use borrow.Author.Tests.{eq-eqb, ne_eqb}
 use Rattle.ring_laws.specs.Lists.{In, clash}
 use Rattle.ring_laws.specs.Table.{cut, unlinked, linked_behind, linked_before, self_linked}
-use Rattle.ring_laws.specs.Stores.{sucs, pres, suc_at}
-use Rattle.axis_laws.specs.Notices.{whos}
+use Rattle.ring_laws.specs.Stores.{pres}
 use Rattle.axis_laws.specs.NoticeLaws.{drop_gone}
 use Rattle.axis_laws.specs.Seek.{seek_from}
 use Rattle.axis_laws.specs.Seek.{found_on}
-use Rattle.axis_laws.specs.Groups.{Group, spelled_out, members, leaders}
+use Rattle.axis_laws.specs.Groups.{Group, spelled_out, members}
 use Rattle.axis_laws.specs.Changes.{left_by}
 use Rattle.axis_laws.specs.Outs.{lead_in}
 use Rattle.axis_laws.specs.Peers.{left_whos}
-use Rattle.axis_laws.specs.Loops.{neighbours}
 use Rattle.axis_laws.specs.Timeline.{Timeline, SpellsGroups}
-use Rattle.axis_laws.specs.Ticks.{lead_busy, lead_off, lead_big, lead_chain, leads_few, peer_at}
+use Rattle.axis_laws.specs.Ticks.{lead_busy, lead_off, lead_chain, leads_few, peer_at}
 use Rattle.axis_laws.specs.Search.{spot, seek_spot, spot_on}
 use Rattle.axis_laws.specs.Procedures.{ticks_left, drop_on, put_ahead, put_alone, tick_for, shares, behind_at, behind_on}
 use Rattle.axis_laws.specs.Spelling.{drop_spells, slot_is}

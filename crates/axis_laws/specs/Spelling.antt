@@ -1,16 +1,15 @@
 -- The procedures on tables that spell groups: each leaves tables that spell the changed groups.
-use Rattle.std.specs.Prelude.{ℕ, suc, ◌+◌, ◌*◌, ◌-◌, ◌<◌, ◌≤◌, ◌≡◌, refl, ◌≢◌, ◌⊎◌, Bool, true, false, length, get_or, set, if◌then◌else◌}
+use Rattle.std.specs.Prelude.{ℕ, suc, ◌-◌, ◌<◌, ◌≡◌, refl, ◌≢◌, true, false, get_or, set, if◌then◌else◌}
 use Rattle.std.proofs.Math.Path.{sym, ap, subst}
 use Rattle.std.proofs.Common.{◌∙◌, inl, inr, ⊎_elim, arith, get_or-set_same, get_or-take}
-use mathlib.Core.List.{List, [], ◌∷◌, ◌++◌}
+use mathlib.Core.List.{List, [], ◌∷◌}
 use Rattle.std.proofs.Math.Dec.{eqb}
 use Rattle.std.proofs.Math.ListN.{length-set}
 use Rattle.std.proofs.Math.Seq.{get_or-set_other}
 use borrow.Author.Tests.{eq-eqb, ne_eqb}
 use Rattle.ring_laws.specs.Lists.{In, behind, decide, inside}
-use Rattle.ring_laws.specs.Distinct.{Dist}
 use Rattle.ring_laws.specs.Table.{unlinked, linked_behind}
-use Rattle.ring_laws.specs.Stores.{sucs, pres, suc_at}
+use Rattle.ring_laws.specs.Stores.{pres}
 use Rattle.axis_laws.specs.Notices.{Notice, whos, due_of}
 use Rattle.axis_laws.specs.AxisRing.{axis_head, SpellsAxis}
 use Rattle.axis_laws.specs.NoticeOps.{before}
@@ -22,11 +21,11 @@ use Rattle.axis_laws.specs.BesideLaws.{before_ins, after_ins}
 use Rattle.axis_laws.specs.Seek.{seek_from}
 use Rattle.axis_laws.specs.Seek.{found_on}
 use Rattle.axis_laws.specs.Groups.{Group, notice, spelled_out, members, leaders, members_are, Rising}
-use Rattle.axis_laws.specs.Changes.{left_by, changed, joined_behind, joined_ahead, overtaken, last_at, first_at}
+use Rattle.axis_laws.specs.Changes.{left_by, joined_behind, joined_ahead, overtaken, last_at, first_at}
 use Rattle.axis_laws.specs.Outs.{lead_in, out_left, out_behind, out_ahead, out_overtaken, out_last, out_first}
-use Rattle.axis_laws.specs.Leads.{swapped, others_of, lead_dist, lead_changed, lead_overtaken, lead_other, lead_alone, lead_next, rising_changed, rising_overtaken, rising_left, rising_last, rising_first}
+use Rattle.axis_laws.specs.Leads.{others_of, lead_dist, lead_changed, lead_overtaken, lead_other, lead_alone, lead_next, rising_changed, rising_overtaken, rising_left, rising_last}
 use Rattle.axis_laws.specs.Swap.{handed_over, spells_handed}
-use Rattle.axis_laws.specs.Timeline.{Timeline, SpellsPeers, SpellsGroups, first_of}
+use Rattle.axis_laws.specs.Timeline.{Timeline, SpellsPeers, SpellsGroups}
 use Rattle.axis_laws.specs.Peers.{left_whos, left_in, peers_left, peers_behind, peers_ahead, peers_front, peers_alone}
 use Rattle.axis_laws.specs.Procedures.{ticks_left, drop_on, put_alone, put_after, put_ahead, put_first, tick_for, shares, behind_at, front_at, before_on, behind_on, front_on, after_on}
 use Rattle.axis_laws.specs.Search.{spot, seek_spot, At, at_split, due_at_lem, spot_on, Shared, shared, new_same, new_leads, new_loops}

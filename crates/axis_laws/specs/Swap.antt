@@ -6,7 +6,7 @@ use Rattle.std.proofs.Math.ListN.{get_or, length-set}
 use Rattle.ring_laws.specs.Lists.{In, decide}
 use Rattle.ring_laws.specs.Distinct.{Dist}
 use Rattle.ring_laws.specs.Chain.{Edge, Chain, forth, back, no_self}
-use Rattle.ring_laws.specs.Rings.{Head, Link, Rings, apart, on_place, next_place_lem, prev_place_lem, next_on_lem, free, rings_dist}
+use Rattle.ring_laws.specs.Rings.{Head, Link, Rings, apart, next_place_lem, prev_place_lem, next_on_lem, free, rings_dist}
 use Rattle.ring_laws.specs.Stores.{sucs, pres, suc_at, stores}
 use Rattle.ring_laws.specs.Spell.{Spells}
 use Rattle.axis_laws.specs.Leads.{swapped}

@@ -1,13 +1,13 @@
 -- What tables that spell groups say of a place: whether it leads, who is next, who is alone.
-use Rattle.std.specs.Prelude.{ℕ, ◌+◌, ◌*◌, ◌-◌, ◌<◌, ◌≤◌, ◌≡◌, refl, ◌≢◌, ◌⊎◌, true, false, List, [], ◌∷◌, ◌++◌, length, get_or}
-use Rattle.std.proofs.Common.{sym, ap, ◌∙◌, inl, inr, ⊎_elim, arith, eq-eqb, ne_eqb}
-use Rattle.ring_laws.specs.Lists.{In, decide, inside}
+use Rattle.std.specs.Prelude.{ℕ, ◌-◌, ◌<◌, ◌≤◌, ◌≡◌, refl, ◌≢◌, List, [], ◌∷◌, length, get_or}
+use Rattle.std.proofs.Common.{sym, ◌∙◌, inl, inr, ⊎_elim, arith, eq-eqb, ne_eqb}
+use Rattle.ring_laws.specs.Lists.{In, decide}
 use Rattle.ring_laws.specs.Distinct.{Dist, in_left}
 use Rattle.ring_laws.specs.Chain.{Chain}
-use Rattle.ring_laws.specs.Rings.{Head, Link, next_place_lem, free}
+use Rattle.ring_laws.specs.Rings.{Head, Link, next_place_lem}
 use Rattle.ring_laws.specs.Stores.{sucs, pres, suc_at}
 use Rattle.ring_laws.proofs.Spell.{spells_dist, spells_few}
-use Rattle.axis_laws.specs.AxisRing.{axis_head, SpellsAxis}
+use Rattle.axis_laws.specs.AxisRing.{axis_head}
 use Rattle.axis_laws.specs.Groups.{Group, members, leaders}
 use Rattle.axis_laws.specs.Outs.{lead_in, own_not_later, own_in, later_in, later_dist}
 use Rattle.axis_laws.specs.Leads.{others_of}

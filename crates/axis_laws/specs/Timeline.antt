@@ -1,9 +1,9 @@
 -- The tables of the axis, m being P + 2, and the groups that they spell.
-use Rattle.std.specs.Prelude.{ℕ, ◌+◌, ◌*◌, ◌-◌, ◌<◌, ◌≡◌, Bool, true, false, not, ◌&&◌, List, eqb, length, get_or, take, drop, if◌then◌else◌}
+use Rattle.std.specs.Prelude.{ℕ, ◌+◌, ◌*◌, ◌-◌, ◌<◌, ◌≡◌, Bool, not, ◌&&◌, List, eqb, length, get_or, take, drop, if◌then◌else◌}
 use Rattle.ring_laws.specs.Lists.{In}
 use Rattle.ring_laws.specs.Distinct.{Dist}
 use Rattle.ring_laws.specs.Stores.{sucs, pres}
-use Rattle.axis_laws.specs.Notices.{Notice, due_of}
+use Rattle.axis_laws.specs.Notices.{due_of}
 use Rattle.axis_laws.specs.AxisRing.{SpellsAxis}
 use Rattle.axis_laws.specs.Groups.{Group, spelled_out, members, leaders, Rising}
 use Rattle.axis_laws.specs.Loops.{Loops}

@@ -1,20 +1,20 @@
 -- Reading the tables: current, its time, the next notice, whether there is a second.
-use Rattle.std.specs.Prelude.{ℕ, suc, ◌+◌, ◌-◌, ◌<◌, ◌≤◌, ◌≡◌, refl, ◌≢◌, ◌⊎◌, true, false, not, List, [], ◌∷◌, ◌++◌, eqb, length, if◌then◌else◌}
+use Rattle.std.specs.Prelude.{ℕ, suc, ◌-◌, ◌<◌, ◌≡◌, refl, ◌≢◌, ◌⊎◌, true, false, not, List, [], ◌∷◌, ◌++◌, eqb, length, if◌then◌else◌}
 use Rattle.std.proofs.Math.Path.{sym}
 use Rattle.std.proofs.Common.{ap, ◌∙◌, subst, inl, inr, ⊎_elim, append_assoc, arith, eq-eqb, ne_eqb}
 use Rattle.std.proofs.Math.ListN.{get_or}
-use Rattle.ring_laws.specs.Lists.{In, decide}
+use Rattle.ring_laws.specs.Lists.{In}
 use Rattle.ring_laws.specs.Distinct.{Dist, in_left, in_right}
 use Rattle.ring_laws.specs.Chain.{Chain}
 use Rattle.ring_laws.specs.Stores.{sucs, pres, suc_at}
 use Rattle.model.specs.declared.Counts.{Counts}
-use Rattle.axis_laws.specs.Notices.{Notice, whos, places, due_of}
+use Rattle.axis_laws.specs.Notices.{Notice}
 use Rattle.axis_laws.specs.Orders.{Next}
-use Rattle.axis_laws.specs.Groups.{Group, notice, group, together, spelled_out, members, leaders, members_are}
+use Rattle.axis_laws.specs.Groups.{Group, together, spelled_out, members, leaders}
 use Rattle.axis_laws.specs.Outs.{lead_in, own_not_later, later_dist}
 use Rattle.axis_laws.specs.Loops.{Loops, neighbours}
 use Rattle.axis_laws.specs.Lowered.{lowered}
-use Rattle.axis_laws.specs.Timeline.{Timeline, SpellsGroups, first_of, time_of, leads, next_of, lone}
+use Rattle.axis_laws.specs.Timeline.{Timeline, SpellsGroups, first_of, time_of, next_of, lone}
 use Rattle.axis_laws.specs.Ticks.{in_m, lead_off, lead_busy, lead_zero, lead_chain, lead_big, peer_at}
 use Rattle.axis_laws.specs.NoticesSpelled.{half, SpellsNotices, times_at}
 

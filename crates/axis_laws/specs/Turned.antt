@@ -1,15 +1,14 @@
 -- Hold by 0 ticks among others of the same time: the ring stays as it is, and the next of that time leads.
-use Rattle.std.specs.Prelude.{ℕ, suc, ◌+◌, ◌*◌, ◌-◌, ◌<◌, ◌≤◌, ◌≡◌, refl, ◌≢◌, ◌⊎◌, List, [], ◌∷◌, ◌++◌, length, get_or}
-use Rattle.std.proofs.Common.{sym, ap, ◌∙◌, subst, inl, inr, ⊎_elim, arith, eq-eqb, le-ltb}
+use Rattle.std.specs.Prelude.{ℕ, ◌-◌, ◌≡◌, refl, List, [], ◌∷◌, ◌++◌, get_or}
+use Rattle.std.proofs.Common.{sym, ◌∙◌, subst, inl, inr, ⊎_elim, arith, eq-eqb, le-ltb}
 use Rattle.ring_laws.specs.Lists.{In, inside}
 use Rattle.ring_laws.specs.Distinct.{Dist, in_left, in_right, in_either, dist_append}
 use Rattle.ring_laws.specs.Stores.{sucs, pres}
-use Rattle.axis_laws.specs.Notices.{Notice, whos, due_of}
+use Rattle.axis_laws.specs.Notices.{due_of}
 use Rattle.axis_laws.specs.AxisRing.{axis_head, SpellsAxis}
 use Rattle.axis_laws.specs.Reading.{due_none}
 use Rattle.axis_laws.specs.NoticeOps.{behind_all}
-use Rattle.axis_laws.specs.Groups.{Group, notice, group, spelled_out, members, leaders, members_are, Rising}
-use Rattle.axis_laws.specs.Changes.{last_at}
+use Rattle.axis_laws.specs.Groups.{Group, notice, group, spelled_out, members, leaders, members_are}
 use Rattle.axis_laws.specs.Outs.{which, own_in, later_in, lead_in, out_last, dist_left, dist_right, dist_apart}
 use Rattle.axis_laws.specs.Loops.{turned_on}
 use Rattle.axis_laws.specs.Search.{due_own, due_later}

@@ -1,26 +1,12 @@
 -- The judge of tables answers yes exactly where they are well formed.
-use Rattle.std.specs.Prelude.{ℕ, suc, ◌+◌, ◌*◌, ◌-◌, ◌<◌, ◌≤◌, ◌≡◌, ◌⊎◌, true, List, [], length, get_or}
-use Rattle.std.proofs.Common.{sym, ap, ◌∙◌, subst, inl, inr, ⊎_elim, arith, leb-true, leb-false, le-leb}
-use Rattle.std.proofs.lemmas.Bool.{lt-leb}
-use Rattle.ring_laws.specs.Lists.{In, decide, test, inside}
-use Rattle.ring_laws.specs.Distinct.{Dist}
-use Rattle.ring_laws.specs.Stores.{sucs, pres}
-use Rattle.ring_laws.proofs.Spell.{spells_dist}
-use Rattle.ring_laws.specs.Rows.{Layout}
-use Rattle.ring_laws.proofs.Fine.{sound, complete}
+use Rattle.std.specs.Prelude.{◌+◌, ◌≡◌, true}
+use Rattle.std.proofs.Common.{sym, arith}
 use Rattle.model.specs.declared.Counts.{Counts}
-use Rattle.model.specs.Counts.{total, most_members, both, and_on}
-use Rattle.axis_laws.specs.Notices.{whos, places, due_of}
-use Rattle.ring_laws.specs.Tabulate.{has, bit, table_at, at_table, has_in}
-use Rattle.model_laws.specs.Tables.{Tables, Lengths, Lists, set_head, SpellsSets, Limited, Spells, WellFormed}
-use Rattle.axis_laws.specs.AxisRing.{axis_head}
+use Rattle.model.specs.Counts.{total, both, and_on}
+use Rattle.axis_laws.specs.Notices.{places}
+use Rattle.model_laws.specs.Tables.{Tables, Lengths, WellFormed}
 use Rattle.model_laws.specs.Judge.{links_fine, axis_fine, tables_fine}
-use Rattle.model_laws.specs.AxisJudged.{AxisSpelled}
 use Rattle.model_laws.proofs.AxisJudged.{axis_sound, axis_complete}
-use Rattle.axis_laws.specs.AxisRing.{axis_head_lem, axis_event}
-use Rattle.axis_laws.specs.Reading.{Timed, notices_of, places_of, length_of_lem, due_in_lem, due_out, order_of, within_of, whos_of, ended_of}
-use Rattle.axis_laws.specs.Reading.{ended_mark, mark_is, who_place, place_who, dist_whos, length_places, due_none, timed}
-use Rattle.axis_laws.specs.Reading.{within_timed, order_timed}
 -- ---- the sets: the heads 1 .. H, and the links H + 1 .. m - 1
 use Rattle.model_laws.specs.Formed.{links_sound, links_complete, lists_of, events_spelled, axis_spelled}
 

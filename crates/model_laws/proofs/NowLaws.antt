@@ -1,15 +1,13 @@
 -- The first notice of tables that spell lists is the lists' first: its place is current's, and its time is time.
-use Rattle.std.specs.Prelude.{ℕ, ◌+◌, ◌-◌, ◌<◌, ◌≤◌, ◌≡◌, refl, List, [], ◌∷◌, length, get_or}
-use Rattle.std.proofs.Common.{sym, ap, ◌∙◌, inl, arith, not-suc-le-zero, eq-eqb}
-use Rattle.ring_laws.specs.Lists.{In}
-use Rattle.ring_laws.specs.Chain.{Chain}
+use Rattle.std.specs.Prelude.{ℕ, ◌+◌, ◌-◌, ◌<◌, ◌≤◌, ◌≡◌, get_or}
+use Rattle.std.proofs.Common.{sym, ap, ◌∙◌, arith}
 use Rattle.ring_laws.specs.Stores.{sucs, pres, suc_at}
 use Rattle.ring_laws.specs.Tabulate.{table_at}
 use Rattle.model.specs.declared.Counts.{Counts}
 use Rattle.model.specs.Counts.{linkage_at}
-use Rattle.axis_laws.specs.Notices.{Notice, whos, due_of, places}
+use Rattle.axis_laws.specs.Notices.{due_of}
 use Rattle.model_laws.specs.Tables.{Tables, Lists, Spells}
-use Rattle.model_laws.specs.Now.{first, current, time, half, first_of, next_place, time_of}
+use Rattle.model_laws.specs.Now.{current, time, half, first_of, next_place, time_of}
 use Rattle.axis_laws.specs.AxisRing.{axis_head_lem}
 use Rattle.model_laws.specs.Formed.{notice_process}
 use Rattle.model_laws.specs.NowLaws.{first_next, first_due, first_process_lem}

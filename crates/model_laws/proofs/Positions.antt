@@ -1,14 +1,9 @@
 -- The judge of a run's positions: its clauses, and that it is sound and complete.
-use Rattle.std.specs.Prelude.{ℕ, zero, suc, ◌+◌, ◌<◌, ◌≤◌, ◌≡◌, ◌≢◌, true, false, List, eqb, length, get_or}
+use Rattle.std.specs.Prelude.{ℕ, zero, suc, ◌<◌, ◌≤◌, ◌≡◌, true, false, List, eqb, get_or}
 use Rattle.std.proofs.Math.Path.{refl}
-use Rattle.std.proofs.Common.{sym, ap, ◌∙◌, arith, eq-eqb, ne_eqb, eqb-true, lt-ltb, le-ltb}
-use Rattle.ring_laws.specs.Lists.{decide, below, test, clash}
-use Rattle.model.specs.declared.Counts.{Counts}
-use Rattle.model.specs.declared.Refusal.TheVariants.{Size, Malformed}
-use Rattle.model.specs.declared.verdict.Verdict.{Verdict}
-use Rattle.model.specs.declared.verdict.Verdict.TheVariants.{Fine, Refused}
-use Rattle.model_laws.specs.Judge.{positions_fine, positions_judged}
-use Rattle.model_laws.specs.Positions.{Positions, judged_length, judged_not, judged_fine, PositionsSay}
+use Rattle.std.proofs.Common.{sym, ap, ◌∙◌, arith, eq-eqb, eqb-true, lt-ltb, le-ltb}
+use Rattle.ring_laws.specs.Lists.{decide, below, clash}
+use Rattle.model_laws.specs.Judge.{positions_fine}
 
 module _ (R : ℕ) (positions : List ℕ) where
   pub positions_zero : positions_fine R positions 0 ≡ eqb (get_or positions 0 0) 0

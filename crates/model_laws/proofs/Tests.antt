@@ -1,15 +1,13 @@
 -- The tests of one place of the axis: their clauses, and what they mean.
-use Rattle.std.specs.Prelude.{ℕ, zero, suc, ◌+◌, ◌*◌, ◌<◌, ◌≤◌, ◌≡◌, ◌≢◌, ◌⊎◌, Bool, true, false, List, [], ◌∷◌, eqb, leb, length, get_or, if◌then◌else◌}
+use Rattle.std.specs.Prelude.{ℕ, zero, suc, ◌<◌, ◌≤◌, ◌≡◌, true, false, List, eqb, leb, get_or}
 use Rattle.std.proofs.Math.Path.{refl}
-use Rattle.std.proofs.Common.{sym, ap, ◌∙◌, inl, inr, ⊎_elim, arith}
-use borrow.Author.Tests.{eq-eqb, ne_eqb, le-leb, lt-leb, leb-true, lt-ltb, le-ltb}
+use Rattle.std.proofs.Common.{sym, ap, ◌∙◌, arith}
+use borrow.Author.Tests.{le-leb, lt-leb, leb-true, lt-ltb, le-ltb}
 use Rattle.model.specs.Counts.{limit}
-use Rattle.ring_laws.specs.Lists.{In, decide, below, test, clash}
-use Rattle.ring_laws.specs.Chain.{Chain}
+use Rattle.ring_laws.specs.Lists.{decide, below, test, clash}
 use Rattle.ring_laws.specs.Judge.{idle}
 use Rattle.model_laws.specs.Judge.{time_fine, places_fine}
 use Rattle.axis_laws.specs.Marks.{mark_fine}
-use Rattle.axis_laws.specs.Reading.{NeverFall}
 
 -- ---- the clauses
 

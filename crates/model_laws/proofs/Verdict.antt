@@ -1,15 +1,13 @@
 -- The verdict on counts and tables: fine, 1 or 2, each exactly where the papers say.
-use Rattle.std.specs.Prelude.{ℕ, ◌+◌, ◌*◌, ◌≡◌, ◌⊎◌, Bool, true, false, not, ◌&&◌, eqb, length}
-use Rattle.std.proofs.Common.{sym, ap, ◌∙◌, inl, inr, eq-eqb, eqb-true}
+use Rattle.std.specs.Prelude.{◌≡◌, Bool, true, false, not, ◌&&◌}
+use Rattle.std.proofs.Common.{sym, ap, ◌∙◌}
 use Rattle.std.proofs.lemmas.Bool.{not-true, not-false}
 use Rattle.ring_laws.specs.Lists.{test, clash}
 use Rattle.model.specs.declared.Counts.{Counts}
 use Rattle.model.specs.declared.Refusal.TheVariants.{Size, Malformed}
-use Rattle.model.specs.Refusals.{refusal_number}
-use Rattle.model.specs.declared.verdict.Verdict.{Verdict}
 use Rattle.model.specs.declared.verdict.Verdict.TheVariants.{Fine, Refused}
-use Rattle.model.specs.Counts.{in_limits, total, both, and_on, limits_allowed, allowed_limits}
-use Rattle.model_laws.specs.Tables.{Tables, Lengths, Sized, WellFormed}
+use Rattle.model.specs.Counts.{in_limits, both, and_on, limits_allowed, allowed_limits}
+use Rattle.model_laws.specs.Tables.{Tables, Sized}
 use Rattle.model_laws.specs.Judge.{lengths_fine, tables_fine, judged}
 use Rattle.model_laws.proofs.Formed.{tables_sound, tables_complete}
 use Rattle.model_laws.specs.Verdict.{verdict_code, lengths_mean, mean_lengths, judged_size, judged_formed, judged_good, Says, says_fine, says_one, says_two, Numbers}

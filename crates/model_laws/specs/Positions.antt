@@ -1,8 +1,6 @@
 -- The judge of a run's positions: its clauses, and that it answers fine, 1 or 2 exactly where the papers say.
-use Rattle.std.specs.Prelude.{ℕ, zero, suc, ◌+◌, ◌<◌, ◌≤◌, ◌≡◌, ◌≢◌, true, false, List, eqb, length, get_or}
-use Rattle.std.proofs.Math.Path.{refl}
-use Rattle.std.proofs.Common.{sym, ap, ◌∙◌, arith, eq-eqb, ne_eqb, eqb-true, lt-ltb, le-ltb}
-use Rattle.ring_laws.specs.Lists.{decide, below, test, clash}
+use Rattle.std.specs.Prelude.{ℕ, ◌+◌, ◌≤◌, ◌≡◌, ◌≢◌, true, false, List, length, get_or}
+use Rattle.std.proofs.Common.{eq-eqb, ne_eqb}
 use Rattle.model.specs.declared.Counts.{Counts}
 use Rattle.model.specs.declared.Refusal.TheVariants.{Size, Malformed}
 use Rattle.model.specs.declared.verdict.Verdict.{Verdict}

@@ -8,13 +8,11 @@ use Rattle.ring_laws.specs.Table.{Sound}
 use Rattle.ring_laws.specs.Stores.{sucs, pres, suc_at}
 use Rattle.ring_laws.proofs.Spell.{spells_sound}
 use Rattle.model.specs.declared.Counts.{Counts}
-use Rattle.model.specs.declared.verdict.Verdict.TheVariants.{Fine}
 use Rattle.model.specs.Counts.{Allowed, total, limit}
 use Rattle.axis_laws.specs.Notices.{places}
 use Rattle.model_laws.specs.Tables.{Tables, Lengths, Lists, Sized, set_head, members_of, Spells}
 use Rattle.axis_laws.specs.AxisRing.{axis_head}
 use Rattle.model_laws.specs.Now.{AxisSound, half, first_of, next_place, prev_place}
-use Rattle.model_laws.specs.Judge.{judged}
 use Rattle.axis_laws.specs.AxisRing.{axis_head_lem, axis_event}
 use Rattle.model_laws.specs.Formed.{axis_spelled}
 

@@ -2,10 +2,9 @@
 use Prim.Native.Nat.{ℕ, zero, suc, ◌+◌, ◌<◌, ◌≤◌}
 use Rattle.std.proofs.Math.Path.{◌≡◌, refl}
 use Rattle.std.proofs.Common.{sym, ap, ◌∙◌, inl, inr, ⊎_elim, arith}
-use Rattle.std.specs.Prelude.{◌≢◌, ◌⊎◌, Bool, List, [], ◌∷◌, ltb, length, if◌then◌else◌}
+use Rattle.std.specs.Prelude.{◌≢◌, Bool, List, [], ◌∷◌, length}
 use Rattle.std.proofs.Math.Bool.{true, false}
-use borrow.Author.Tests.{eq-eqb, ne_eqb, lt-ltb, le-ltb}
-use Rattle.ring_laws.specs.Lists.{In, decide, below, clash}
+use Rattle.ring_laws.specs.Lists.{In, decide}
 use Rattle.ring_laws.specs.Chain.{Edge, Chain}
 use Rattle.ring_laws.specs.Judge.{allowed, step, walk}
 -- ---- the clauses

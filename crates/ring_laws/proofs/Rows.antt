@@ -1,16 +1,16 @@
 -- The rings of heads that follow each other, as a list of lists; together their members are distinct.
 use Prim.Native.Nat.{ℕ, zero, suc, ◌+◌, ◌-◌, ◌<◌, ◌≤◌}
-use Rattle.std.specs.Prelude.{◌≡◌, ◌≢◌, ◌⊎◌, Bool, true, false, List, [], ◌∷◌, eqb, length, get_or}
+use Rattle.std.specs.Prelude.{◌≡◌, ◌≢◌, Bool, true, false, List, [], ◌∷◌, length, get_or}
 use Rattle.std.proofs.Math.Path.{refl}
 use Rattle.std.proofs.Common.{sym, ap, ◌∙◌, subst, inr, ⊎_elim, not-suc-le-zero, length-append}
 use native.Mathlib.Omega.{arith}
-use borrow.Author.Tests.{eq-eqb, ne_eqb, eqb-true, lt-ltb, le-ltb}
+use borrow.Author.Tests.{eq-eqb, eqb-true}
 use Rattle.ring_laws.specs.Lists.{In, below, clash}
-use Rattle.ring_laws.specs.Chain.{Chain, next_in_lem}
+use Rattle.ring_laws.specs.Chain.{next_in_lem}
 use Rattle.ring_laws.specs.Unique.{suffix, same_end, dist_chain}
 use Rattle.ring_laws.specs.Rings.{Head, Link, apart}
 use Rattle.ring_laws.specs.Judge.{walk, closed, idle}
-use Rattle.ring_laws.specs.Distinct.{Dist, joined, in_left, in_right, in_either, dist_append}
+use Rattle.ring_laws.specs.Distinct.{Dist, joined, in_either, dist_append}
 use Rattle.ring_laws.proofs.Busy.{idle_not}
 use Rattle.ring_laws.specs.RingWalk.{WalkPassed}
 use Rattle.ring_laws.proofs.RingWalk.{walk_chain, chain_walk}

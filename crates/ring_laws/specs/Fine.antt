@@ -1,11 +1,8 @@
 -- The judge answers yes exactly where there are lists.
-use Rattle.std.specs.Prelude.{ℕ, ◌+◌, ◌-◌, ◌≤◌, ◌≡◌, ◌⊎◌, Bool, true, false, List, [], length, get_or}
-use Rattle.std.proofs.Common.{sym, ap, ◌∙◌, subst, inl, inr, ⊎_elim, arith}
-use Rattle.ring_laws.specs.Lists.{In, test, clash}
-use Rattle.ring_laws.specs.Rings.{Head, Link, Rings}
+use Rattle.std.specs.Prelude.{ℕ, ◌-◌, ◌≡◌, Bool, true, false, List, [], length, get_or}
+use Rattle.ring_laws.specs.Rings.{Rings}
 use Rattle.ring_laws.specs.Judge.{idle, busy, closed, rings_fine}
-use Rattle.ring_laws.specs.Distinct.{joined, fits, covers}
-use Rattle.ring_laws.specs.Rows.{Layout, Row, Rows, AtMost, Closed, in_at, at_in}
+use Rattle.ring_laws.specs.Rows.{AtMost}
 
 module _ (S P : ℕ → ℕ) (lo hi most n g : ℕ) where
   pub fine_not : idle S P 0 ≡ false → rings_fine S P lo hi most n g ≡ false

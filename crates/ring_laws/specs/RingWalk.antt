@@ -1,12 +1,12 @@
 -- The walk along one ring: its clauses; it comes back exactly where there is a chain.
 use Prim.Native.Nat.{ℕ, zero, suc, ◌+◌, ◌<◌, ◌≤◌}
 use Rattle.std.proofs.Math.Path.{◌≡◌, refl}
-use Rattle.std.proofs.Common.{sym, ap, ◌∙◌, inl, inr, ⊎_elim, arith}
-use Rattle.std.specs.Prelude.{◌≢◌, ◌⊎◌, Bool, List, [], ◌∷◌, ltb, length, if◌then◌else◌}
+use Rattle.std.proofs.Common.{sym, ◌∙◌, arith}
+use Rattle.std.specs.Prelude.{◌≢◌, Bool, List, ltb, length, if◌then◌else◌}
 use Rattle.std.proofs.Math.Bool.{true, false}
 use borrow.Author.Tests.{eq-eqb, ne_eqb, lt-ltb, le-ltb}
 use Rattle.ring_laws.specs.Lists.{In, decide, below, clash}
-use Rattle.ring_laws.specs.Chain.{Edge, Chain}
+use Rattle.ring_laws.specs.Chain.{Chain}
 use Rattle.ring_laws.specs.Judge.{allowed, step, walk}
 
 -- ---- the clauses

@@ -1,17 +1,15 @@
 -- The rings of heads that follow each other, as a list of lists; together their members are distinct.
 use Prim.Native.Nat.{ℕ, zero, suc, ◌+◌, ◌-◌, ◌<◌, ◌≤◌}
-use Rattle.std.specs.Prelude.{◌≡◌, ◌≢◌, ◌⊎◌, Bool, true, false, List, [], ◌∷◌, eqb, length, get_or}
+use Rattle.std.specs.Prelude.{◌≡◌, ◌≢◌, Bool, false, List, [], ◌∷◌, eqb, length, get_or}
 use Rattle.std.proofs.Math.Path.{refl}
-use Rattle.std.proofs.Common.{sym, ap, ◌∙◌, subst, inr, ⊎_elim, not-suc-le-zero, length-append}
+use Rattle.std.proofs.Common.{⊎_elim}
 use native.Mathlib.Omega.{arith}
-use borrow.Author.Tests.{eq-eqb, ne_eqb, eqb-true, lt-ltb, le-ltb}
-use Rattle.ring_laws.specs.Lists.{In, below, clash}
-use Rattle.ring_laws.specs.Chain.{Chain, next_in_lem}
-use Rattle.ring_laws.specs.Unique.{suffix, same_end, dist_chain}
-use Rattle.ring_laws.specs.Rings.{Head, Link, apart}
-use Rattle.ring_laws.specs.Judge.{walk, closed, idle}
-use Rattle.ring_laws.specs.Distinct.{Dist, joined, in_left, in_right, in_either, dist_append}
-use Rattle.ring_laws.specs.RingWalk.{WalkPassed}
+use borrow.Author.Tests.{eq-eqb, ne_eqb, lt-ltb, le-ltb}
+use Rattle.ring_laws.specs.Lists.{In}
+use Rattle.ring_laws.specs.Chain.{Chain}
+use Rattle.ring_laws.specs.Rings.{Head, Link}
+use Rattle.ring_laws.specs.Judge.{walk, closed}
+use Rattle.ring_laws.specs.Distinct.{joined, in_left, in_right, in_either}
 
 -- the n heads from g, and the links lo .. hi - 1
 pub record Layout (m : ℕ) (is_head : ℕ → Bool) (n g lo hi : ℕ) : Type 0 where

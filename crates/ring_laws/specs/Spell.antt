@@ -1,17 +1,16 @@
 -- What a table spells: for each head the list of its ring. Unlinking and linking do to the lists what their names say.
-use Rattle.std.specs.Prelude.{ℕ, zero, suc, ◌+◌, ◌*◌, ◌-◌, ◌<◌, ◌≤◌, ◌≡◌, ◌≢◌, ◌⊎◌, Bool, List, [], ◌∷◌, length}
+use Rattle.std.specs.Prelude.{ℕ, zero, suc, ◌*◌, ◌<◌, ◌≤◌, ◌≡◌, Bool, List, [], ◌∷◌, length}
 use Rattle.std.proofs.Math.Path.{refl, ap}
-use Rattle.std.proofs.Common.{sym, ◌∙◌, arith, eq-eqb, ne_eqb}
-use Rattle.std.proofs.Math.Logic.{inl, inr, ⊎_elim}
-use Rattle.std.proofs.Math.ListN.{get_or, length-set, get_or-eq_default}
-use Rattle.ring_laws.specs.Lists.{In, without, behind, ahead, decide, below}
-use Rattle.ring_laws.specs.Distinct.{Dist}
-use Rattle.ring_laws.specs.Chain.{Chain, forth, back, prev_in_lem, no_self, behind_ahead}
-use Rattle.ring_laws.specs.Rings.{Head, Link, Rings, apart, kind, rings_cong, on_place, next_on_lem, next_place_lem, prev_place_lem, not_own}
-use Rattle.ring_laws.specs.Rings.{rings_dist, rings_apart, rings_few, rings_one, idle_rings, cut_rings, put_rings}
-use Rattle.ring_laws.specs.Table.{Sound, cut, join, join_before, unlinked, linked_behind, linked_before, steps, counted, steps_here}
+use Rattle.std.proofs.Common.{sym, ◌∙◌, arith}
+use Rattle.std.proofs.Math.Logic.{inl, inr}
+use Rattle.std.proofs.Math.ListN.{get_or}
+use Rattle.ring_laws.specs.Lists.{In}
+use Rattle.ring_laws.specs.Chain.{Chain}
+use Rattle.ring_laws.specs.Rings.{Head, Rings, rings_cong}
+use Rattle.ring_laws.specs.Rings.{rings_one}
+use Rattle.ring_laws.specs.Table.{steps, steps_here}
 use Rattle.ring_laws.specs.Table.{steps_on}
-use Rattle.ring_laws.specs.Stores.{sucs, pres, suc_at, cut_is, cut_x, join_is, before_is}
+use Rattle.ring_laws.specs.Stores.{sucs, pres, suc_at}
 
 pub record Spells (m : ℕ) (is_head : ℕ → Bool) (L : ℕ → List ℕ) (t : List ℕ) : Type 0 where
   pub two : length t ≡ 2 * m

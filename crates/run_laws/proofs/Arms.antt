@@ -14,7 +14,6 @@ use Rattle.simset_laws.specs.Procedures.{empty_of}
 use Rattle.simset_laws.specs.Calls.{Linked, told_if, out_step, follow_step, precede_step, into_step, clear_step}
 use Rattle.simset_laws.specs.Promise.{Moved}
 use Rattle.simset_laws.specs.Plain.{links_after}
-use Rattle.simulation_laws.specs.Procedures.{Sqs, due_at, activated}
 use Rattle.simulation_laws.specs.Promise.{sqs, Answers}
 use Rattle.simulation_laws.specs.StepPromise.{FinishMade, WaitMade}
 use Rattle.simulation_laws.specs.ReadPromise.{on_sqs_lem, on_marks_lem, on_sets_lem}

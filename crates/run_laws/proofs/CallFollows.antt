@@ -1,6 +1,6 @@
 -- One call on tables that spell a machine is the machine's call: for every accepted sheet, every such run and every trace buffer.
-use Rattle.std.specs.Prelude.{ℕ, zero, suc, ◌+◌, ◌*◌, ◌/◌, ◌≤◌, ◌<◌, ◌≡◌, refl, true, List, [], ◌∷◌, ◌++◌, length, get_or, drop}
-use Rattle.std.proofs.Common.{sym, ◌∙◌, subst, arith, length-append}
+use Rattle.std.specs.Prelude.{ℕ, zero, suc, ◌*◌, ◌/◌, ◌≤◌, ◌<◌, ◌≡◌, refl, true, List, ◌∷◌, length, get_or}
+use Rattle.std.proofs.Common.{sym, ◌∙◌, subst, arith}
 use Rattle.std.proofs.Math.Path.{ap}
 use borrow.Author.Tests.{le-leb, lt-leb}
 use Rattle.ring_laws.specs.Lists.{below}
@@ -15,15 +15,11 @@ use Rattle.sheet.specs.declared.header.Checked.{Checked}
 use Rattle.sheet.specs.declared.header.Checked.TheVariants.{Accepted}
 use Rattle.sheet.specs.Sheet.{counts_of, records_of, Sheet, sheet_of}
 use Rattle.sheet.specs.Accepted.{header_of, accepted, checked}
-use Rattle.trace.specs.Lines.{put}
-use Rattle.trace.specs.Put.{length_line}
 use Rattle.machine.specs.Machine.{Machine}
-use Rattle.machine.specs.Steps.{Line}
 use Rattle.machine.specs.Run.{call, line_size, trace_limit}
 use Rattle.machine.specs.Run as machine
 use Rattle.run_laws.specs.Run.{RunTables, run_judged, RanOn, judged_run, checked_run, run_on}
 use Rattle.run_laws.specs.Standing.{Stands, Standing, sized, positions_length, words_length}
-use Rattle.run_laws.specs.Refine.{bytes_of}
 use Rattle.run_laws.specs.TurnsFollow.{lines_bytes}
 use Rattle.run_laws.proofs.TurnsFollow.{TurnsAre, turns_are}
 use Rattle.run_laws.specs.Judging.{trace_size, tables_fine_lem}

@@ -1,24 +1,19 @@
 -- Demand 3: one theorem about a whole list of run calls, refused ones included, for every accepted sheet and every list of trace buffers.
-use Rattle.std.specs.Prelude.{ℕ, ◌-◌, ◌<◌, ◌≡◌, refl, true, length}
-use Rattle.std.proofs.Common.{sym, ◌∙◌}
+use Rattle.std.specs.Prelude.{ℕ, ◌<◌, ◌≡◌, refl, true, length}
 use mathlib.Core.List.{List, [], ◌∷◌, Nodup}
 use Rattle.ring_laws.specs.Lists.{In}
 use Rattle.ring_laws.specs.Distinct.{joined}
 use Rattle.ring_laws.specs.Members.{dist_nodup}
 use Rattle.axis_laws.specs.Notices.{whos}
-use Rattle.model_laws.specs.Only.{tables_only}
 use Rattle.model.specs.declared.verdict.Verdict.TheVariants.{Fine}
-use Rattle.sheet.specs.Sheet.{counts_of, records_of, Sheet, sheet_of}
+use Rattle.sheet.specs.Sheet.{counts_of, records_of, sheet_of}
 use Rattle.sheet.specs.Accepted.{accepted}
 use Rattle.machine.specs.Machine.{Machine, fresh}
 use Rattle.machine.specs.Run.{call, calls, state}
-use Rattle.machine.specs.Run as machine
-use Rattle.machine_laws.specs.Uncut.{Joined, calls_joined}
-use Rattle.machine.specs.History.{Tie, scheduled, notices_at}
-use Rattle.machine_laws.specs.GoesFirst.{GoesFirst}
-use Rattle.run_laws.specs.MachineLaws.{Laws}
+use Rattle.machine_laws.specs.Uncut.{calls_joined}
+use Rattle.machine.specs.History.{scheduled, notices_at}
 use Rattle.run_laws.proofs.MachineLaws.{machine_laws}
-use Rattle.run_laws.specs.Run.{RunTables, run_judged, RanOn, run_on}
+use Rattle.run_laws.specs.Run.{RunTables, run_judged, run_on}
 use Rattle.run_laws.specs.Judging.{judged_fine, passed_standing}
 use Rattle.run_laws.specs.Standing.{Stands}
 use Rattle.run_laws.specs.Fresh.{fresh_run, fresh_stands}

@@ -1,13 +1,12 @@
 -- A run from call to call: each finds tables of a run and leaves such tables, with no more lines than the trace has room for.
 use Prim.Native.Nat.{ℕ, zero, suc, ◌+◌, ◌*◌, ◌/◌, ◌≤◌}
-use Rattle.std.specs.Prelude.{◌≡◌, List, length}
-use Rattle.std.proofs.Common.{sym, ap, ◌∙◌, subst}
+use Rattle.std.specs.Prelude.{List, length}
+use Rattle.std.proofs.Common.{sym, subst}
 use native.Mathlib.Omega.{arith}
 use Rattle.ring_laws.specs.Lists.{test}
 use Rattle.model.specs.declared.Counts.{Counts}
 use Rattle.model.specs.declared.verdict.Verdict.{Verdict}
 use Rattle.model.specs.declared.verdict.Verdict.TheVariants.{Fine, Refused as Judged}
-use Rattle.sheet.specs.declared.header.Header.{Header}
 use Rattle.sheet.specs.declared.header.Checked.{Checked}
 use Rattle.sheet.specs.declared.header.Checked.TheVariants.{Accepted, Refused as NotAccepted}
 use Rattle.sheet.specs.Sheet.{records_of, sheet_of}
@@ -17,8 +16,6 @@ use Rattle.run_laws.specs.Run.{RunTables, Turned, On, Off, step_on, ends_now, tu
 use Rattle.run_laws.specs.Standing.{Stands, Standing}
 use Rattle.run_laws.proofs.CallFollows.{call_agrees}
 use Rattle.run_laws.proofs.Kept.{goes}
-use Rattle.run_laws.specs.Fresh.{filled_for, filled}
-use Rattle.run_laws.specs.Starting.{Startable, filled_standing}
 
 -- and such tables are some machine's after a call
 pub run_stands : (c : Counts) (bytes : List ℕ) (u : RunTables) (tr : List ℕ) → Standing c bytes u → Standing c bytes (run_on bytes u tr).run

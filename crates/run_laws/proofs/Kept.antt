@@ -3,21 +3,16 @@
 use Prim.Native.Nat.{ℕ, zero, suc, ◌*◌, ◌/◌, ◌≤◌}
 use Rattle.std.specs.Prelude.{◌≡◌, List, ℤ, length}
 use Rattle.std.proofs.Math.Path.{refl}
-use Rattle.std.proofs.Common.{ap}
 use Rattle.std.proofs.Math.Bool.{true, false}
 use native.Mathlib.Omega.{arith}
 use Rattle.ring_laws.specs.Lists.{test, clash}
 use Rattle.model.specs.declared.Counts.{Counts}
 use Rattle.model.specs.declared.Refusal.{Refusal}
-use Rattle.model.specs.declared.answer.Answer.{Answer}
-use Rattle.model.specs.declared.answer.Answer.TheVariants.{Done, Linkage, Number, Truth, Refused as NotDone}
+use Rattle.model.specs.declared.answer.Answer.TheVariants.{Refused as NotDone}
 use Rattle.model.specs.declared.verdict.Verdict.{Verdict}
 use Rattle.model.specs.declared.verdict.Verdict.TheVariants.{Fine, Refused as Judged}
 use Rattle.model_laws.specs.Tables.{Tables}
 use Rattle.model_laws.specs.Now.{half, first_of, time_of}
-use Rattle.model_laws.specs.Result.{KeepsRefused}
-use Rattle.simset_laws.proofs.Kept.{set_steps}
-use Rattle.simulation_laws.proofs.Kept.{hold_steps, passivate_steps, cancel_steps, timed_steps, finish_steps, wait_steps}
 use Rattle.accum_laws.specs.declared.Updated.{Updated}
 use Rattle.accum_laws.specs.declared.Updated.TheVariants.{To, Refused as NotUpdated}
 use Rattle.accum_laws.specs.Update.{updated_of}
@@ -26,10 +21,9 @@ use Rattle.sheet.specs.declared.header.Checked.{Checked}
 use Rattle.sheet.specs.declared.header.Checked.TheVariants.{Accepted, Refused as NotAccepted}
 use Rattle.sheet.specs.Accepted.{checked}
 use Rattle.machine.specs.declared.End.TheVariants.{Refused}
-use Rattle.machine.specs.Calls.{ListCall, on_set, hold, passivate, wait, cancel, activate, if_empty, finish, Call, on_list, accum}
+use Rattle.machine.specs.Calls.{Call, on_list, accum}
 use Rattle.machine.specs.Run.{line_size}
-use Rattle.run_laws.specs.Fresh.{sizes_fine, filled_for, filled}
-use Rattle.run_laws.specs.OnTables.{tables_after, Carried, carried_out}
+use Rattle.run_laws.specs.OnTables.{Carried, carried_out}
 use Rattle.run_laws.specs.Run.{RunTables, run_of, run_judged, call_due, Turned, On, Off, turned_of, Stepped, moved, due_in, line_in, step_on}
 use Rattle.run_laws.specs.Run.{ends_now, RanOn, stopped_on, turns_on, judged_run, checked_run, run_on}
 -- ---- a call

@@ -10,7 +10,7 @@ use Rattle.sheet.specs.Sheet.{record_offset}
 use Rattle.machine.specs.declared.End.TheVariants.{Finished, Refused as Ended}
 use Rattle.machine.specs.Run.{line_size}
 use Rattle.run_laws.specs.declared.Turn.TheVariants.{Finished as AtEnd, Made, Refused as NotMade}
-use Rattle.run_laws.specs.Run.{RunTables, run_of, Turned, On, Off, Stepped, record_got, record_at_now, step_on, ends_now, TurnedOn, turn_by}
+use Rattle.run_laws.specs.Run.{RunTables, run_of, Stepped, record_got, record_at_now, step_on, ends_now, TurnedOn, turn_by}
 use Rattle.run_laws.specs.Run.{turn_on, RanOn, stopped_on}
 use Rattle.run_laws.specs.Performed.{Performed, performed, verdict_by, goes_to, turned_to, refused_of}
 use Rattle.run_laws.specs.Tried.{apart}

@@ -11,11 +11,10 @@ use Rattle.model.specs.Counts.{total, is_head}
 use Rattle.model_laws.specs.Now.{half, first_of}
 use Rattle.simset_laws.specs.Procedures.{link_or}
 use Rattle.sheet.specs.declared.records.Record.{Record}
-use Rattle.sheet.specs.Sheet.{record_offset, record_from, record_with}
 use Rattle.sheet.specs.Accepted.{is_operand, operand_base}
 use Rattle.sheet.specs.Fields.{operand_kinds}
 use Rattle.run_laws.specs.OnTables.{member_at, operand_with}
-use Rattle.run_laws.specs.Run.{end_record, record_got, ends_now}
+use Rattle.run_laws.specs.Run.{ends_now}
 use Rattle.run_laws.specs.declared.Effect.TheVariants.{Stays, Jumps, Refused}
 use Rattle.run_laws.specs.Performed.{branched}
 use Rattle.run_laws.specs.Needs.{Resolvable}

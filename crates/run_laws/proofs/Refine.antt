@@ -21,7 +21,7 @@ use Rattle.sheet.specs.Fields.{Ranged}
 use Rattle.sheet.specs.Ranges.{record_listed, few_records}
 use Rattle.trace.specs.Lines.{line_bytes}
 use Rattle.machine.specs.Machine.{Machine}
-use Rattle.machine.specs.Steps.{its_operand, call_of, next_of, record_of, record_now, Line, line_now}
+use Rattle.machine.specs.Steps.{its_operand, call_of, next_of, record_of, record_now, line_now}
 use Rattle.machine.specs.Run.{at_end}
 use Rattle.run_laws.proofs.Resolving.{current_at_lem, time_at, operand_plain, operand_at_lem, empty_at}
 use Rattle.run_laws.specs.Run.{RunTables, record_operand, resolved, call_due, record_at_now, line_in, ends_now}

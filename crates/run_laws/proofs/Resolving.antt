@@ -1,21 +1,19 @@
 -- Reading tables that spell the machine's lists: current, time, first members and so every operand are the machine's.
-use Rattle.std.specs.Prelude.{ℕ, ◌+◌, ◌-◌, ◌<◌, ◌≤◌, ◌≡◌, refl, true, List, [], ◌∷◌, ltb, eqb}
-use Rattle.std.proofs.Common.{sym, ap, ◌∙◌, inl, leb-true, leb-false, ltb-false, lt-ltb}
+use Rattle.std.specs.Prelude.{ℕ, ◌+◌, ◌-◌, ◌<◌, ◌≤◌, ◌≡◌, refl, true, ltb, eqb}
+use Rattle.std.proofs.Common.{ltb-false, lt-ltb}
 use native.Mathlib.Omega.{arith}
 use Rattle.std.proofs.lemmas.Bool.{eqb-false}
-use Rattle.ring_laws.specs.Lists.{In, test}
-use Rattle.ring_laws.specs.Chain.{Chain}
+use Rattle.ring_laws.specs.Lists.{test}
 use Rattle.ring_laws.specs.Rings.{Head}
-use Rattle.ring_laws.specs.Stores.{sucs, pres, suc_at}
 use Rattle.model.specs.declared.Counts.{Counts}
 use Rattle.model.specs.Counts.{total, is_head}
-use Rattle.model_laws.specs.Tables.{Tables, Lists, Sized, set_head, members_of, SpellsSets, Spells}
+use Rattle.model_laws.specs.Tables.{Tables, Lists, Sized, set_head, members_of, Spells}
 use Rattle.model_laws.proofs.NowLaws.{current_now, time_now}
 use Rattle.model_laws.specs.Now.{time, current, time_of, half}
 use Rattle.simset_laws.specs.Procedures as procedures
 use Rattle.simset_laws.specs.Sets.{no_links}
 use Rattle.simset_laws.specs.Laws.{set_head_lem}
-use Rattle.simset_laws.specs.QueryLaws.{or_link, or_none_lem, empty_says}
+use Rattle.simset_laws.specs.QueryLaws.{empty_says}
 use Rattle.simset_laws.specs.Meaning.{head_of_lem}
 use Rattle.sheet.specs.Accepted.{is_operand, operand_base}
 use Rattle.sheet.specs.Fields.{operand_high}

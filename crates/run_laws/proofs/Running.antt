@@ -1,7 +1,6 @@
 -- The loop's variables: current's place, time and record beside the tables, and what a step makes of them.
-use Rattle.std.specs.Prelude.{ℕ, ◌+◌, ◌*◌, ◌<◌, ◌≡◌, refl, ◌≢◌, Bool, true, false, ◌&&◌, List, eqb, length, get_or, set}
-use Rattle.std.proofs.Common.{sym, ap, subst, ◌∙◌}
-use Rattle.std.proofs.lemmas.List.{set-get_or}
+use Rattle.std.specs.Prelude.{ℕ, ◌+◌, ◌*◌, ◌<◌, ◌≡◌, refl, ◌≢◌, Bool, true, false, ◌&&◌, List, eqb, length, get_or}
+use Rattle.std.proofs.Common.{sym, ap, ◌∙◌}
 use Rattle.model.specs.declared.Counts.{Counts}
 use Rattle.model.specs.declared.Refusal.{Refusal}
 use Rattle.model_laws.specs.Now.{half, time_of, first_of}
@@ -9,7 +8,7 @@ use Rattle.sheet.specs.Sheet.{record_offset}
 use Rattle.machine.specs.declared.End.TheVariants.{Refused}
 use Rattle.machine.specs.Run.{line_size}
 use Rattle.run_laws.specs.declared.Effect.TheVariants.{Refused as NotDone}
-use Rattle.run_laws.specs.Run.{RunTables, run_of, On, Off, Stepped, record_got, record_at_now, step_on, ends_now, RanOn, stopped_on}
+use Rattle.run_laws.specs.Run.{RunTables, run_of, On, Off, Stepped, record_got, step_on, ends_now, RanOn, stopped_on}
 use Rattle.run_laws.specs.Performed.{Performed, performed, turned_by}
 use Rattle.run_laws.specs.Needs.{Performable}
 use Rattle.run_laws.proofs.ReadsLaws.{ends_at}

@@ -27,7 +27,7 @@ use Rattle.run_laws.specs.StepIs.{Went, stayed}
 use Rattle.run_laws.specs.Turning.{Turning, SameLengths, same_lengths}
 use Rattle.run_laws.specs.Counting.{Counting}
 use Rattle.run_laws.proofs.Counting.{counting_start, room_left, counting_on}
-use Rattle.run_laws.specs.Running.{Here, positioned, as_positioned, here_positioned}
+use Rattle.run_laws.specs.Running.{positioned, as_positioned, here_positioned}
 use Rattle.run_laws.proofs.Running.{callable, ends, turned_down_lem, goes_on, moved_on_lem}
 use Rattle.run_laws.proofs.Running.{stays_here}
 use Rattle.run_laws.specs.Stretching.{Stretching}

@@ -1,5 +1,5 @@
 -- The loop over turns: what is left to do from here comes to the whole, and the tables are still a machine's.
-use Rattle.std.specs.Prelude.{ℕ, suc, ◌+◌, ◌*◌, ◌-◌, ◌/◌, ◌≤◌, ◌<◌, ◌≡◌, refl, true, false, List, length, get_or}
+use Rattle.std.specs.Prelude.{ℕ, suc, ◌+◌, ◌*◌, ◌-◌, ◌≤◌, ◌<◌, ◌≡◌, refl, true, false, List, length, get_or}
 use Rattle.std.proofs.Math.Path.{sym, ap}
 use Rattle.std.proofs.Common.{◌∙◌, subst, arith, get_or-set_same}
 use Rattle.ring_laws.specs.Lists.{clash}
@@ -12,11 +12,11 @@ use Rattle.machine.specs.declared.End.TheVariants.{Finished, Full, Refused}
 use Rattle.machine.specs.Machine.{Machine}
 use Rattle.machine.specs.Calls.{perform}
 use Rattle.machine.specs.Steps.{call_now, moved_on}
-use Rattle.machine.specs.Run.{line_size, trace_limit}
+use Rattle.machine.specs.Run.{line_size}
 use Rattle.run_laws.specs.OnTables.{Carried, carried_out}
 use Rattle.run_laws.specs.Run.{RunTables, Turned, On, Off, Stepped, call_due, turned_of, moved, due_in, line_in, step_on, ends_now, RanOn}
 use Rattle.run_laws.specs.Run.{stopped_on, turns_on}
-use Rattle.run_laws.specs.Standing.{Standing, sized, ready, positions_length, words_length}
+use Rattle.run_laws.specs.Standing.{Standing, ready, positions_length}
 use Rattle.run_laws.proofs.StepFollows.{StepIs, step_follows}
 -- ---- an accepted step leaves tables of a machine
 use Rattle.run_laws.specs.Turning.{Turning}

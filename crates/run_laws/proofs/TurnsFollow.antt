@@ -1,10 +1,9 @@
 -- Turns on tables that spell a machine are the machine's turns: as many lines, the same end, the lines' bytes and then the trace as it
 -- was lent, and tables that spell the machine after them.
 use Prim.Native.Nat.{ℕ, zero, suc, ◌+◌, ◌*◌, ◌≤◌}
-use Rattle.std.specs.Prelude.{◌≡◌, refl, true, List, [], ◌++◌, map, length, take, drop}
-use Rattle.std.proofs.Common.{sym, ap, ◌∙◌, subst, arith, take-append-drop}
+use Rattle.std.specs.Prelude.{◌≡◌, refl, true, List, length}
+use Rattle.std.proofs.Common.{sym, ap, ◌∙◌, subst, arith}
 use Rattle.ring_laws.specs.Lists.{test}
-use Rattle.ring_laws.specs.Distinct.{joined}
 use Rattle.model.specs.declared.Counts.{Counts}
 use Rattle.model_laws.specs.Result.{done, refused, Result}
 use Rattle.sheet.specs.Sheet.{counts_of, records_of, Sheet, sheet_of}

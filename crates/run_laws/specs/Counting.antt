@@ -1,13 +1,11 @@
 -- The loop counts bytes alone, and neither divides nor multiplies: the next line's place is byte `at`; none goes behind byte `end`, so that
 -- none begins at byte `stop` or behind it. That there are `at / line_size` lines, and room for `end / line_size`, is said here alone.
-use Rattle.std.specs.Prelude.{ℕ, ◌+◌, ◌*◌, ◌/◌, ◌≤◌, ◌<◌, ◌≡◌, List, length}
-use Rattle.std.proofs.Common.{sym, subst, arith}
+use Rattle.std.specs.Prelude.{ℕ, ◌*◌, ◌/◌, ◌≤◌, ◌≡◌, List, length}
 use Rattle.model.specs.declared.Counts.{Counts}
-use Rattle.trace.specs.Fits.{past_last, fits}
-use Rattle.machine.specs.Run.{line_size, trace_limit}
-use Rattle.run_laws.specs.Run.{RunTables, RanOn, turns_on}
-use Rattle.run_laws.specs.Standing.{Standing}
-use Rattle.run_laws.specs.Turning.{Turning, turning_start}
+use Rattle.trace.specs.Fits.{past_last}
+use Rattle.machine.specs.Run.{line_size}
+use Rattle.run_laws.specs.Run.{RunTables, RanOn}
+use Rattle.run_laws.specs.Turning.{Turning}
 
 pub record Counting (c : Counts) (bytes : List ℕ) (end stop at : ℕ) (whole : RanOn) (u₀ : RunTables) (tr₀ : List ℕ) (u : RunTables)
     (tr : List ℕ) : Type 0 where

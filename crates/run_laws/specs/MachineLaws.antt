@@ -1,30 +1,22 @@
 -- The laws of the machine, for every accepted sheet and any number of steps: what is kept, that time never goes back, and the order of
 -- ties. This file answers the auditor's two questions on the machine.
-use Prim.Native.Nat.{ℕ, zero, suc, ◌-◌, ◌≤◌}
+use Prim.Native.Nat.{ℕ, suc, ◌-◌, ◌≤◌}
 use Rattle.std.specs.Prelude.{◌≡◌, true, List}
 use Rattle.std.proofs.Common.{sym}
 use Rattle.std.proofs.Math.Path.{subst}
 use native.Mathlib.Omega.{arith}
-use Rattle.std.proofs.Math.ListN.{length, get_or, get_or-eq_default, length-replicate}
+use Rattle.std.proofs.Math.ListN.{length, get_or, get_or-eq_default}
 use Rattle.ring_laws.specs.Lists.{below}
-use Rattle.model_laws.specs.Formed.{notice_each, notice_process}
-use Rattle.model_laws.specs.Once.{links_once, set_links}
-use Rattle.model_laws.specs.Fresh.{fresh_tables, fresh_spells}
 use Rattle.model_laws.specs.Now.{time}
-use Rattle.accum_laws.specs.Keeps.{zero_accumulator}
-use Rattle.accum_laws.specs.Runs.{fresh_each}
 use Rattle.sheet.specs.Sheet.{counts_of, records_of, start_at, Sheet, sheet_of}
 use Rattle.sheet.specs.Accepted.{header_of, accepted}
 use Rattle.sheet.specs.Fields.{Ranged}
 use Rattle.sheet.specs.Ranges.{starts_listed, records_listed, start_listed, record_listed, allowed_counts, start_in, record_in}
-use Rattle.machine.specs.Machine.{Machine, fresh}
 use Rattle.machine.specs.Steps.{record_of}
-use Rattle.machine.specs.Run.{uncut, state}
-use Rattle.machine.specs.History.{Stepwise, Ties, placing, notices_at}
-use Rattle.machine_laws.specs.HistoryLaw.{ties_of}
+use Rattle.machine.specs.Run.{state}
+use Rattle.machine.specs.History.{Ties}
 use Rattle.machine_laws.specs.Invariant.{InRange, Invariant}
-use Rattle.machine_laws.specs.GoesFirst.{GoesFirst, goes_first}
-use Rattle.run_laws.specs.MachineTurns.{Going}
+use Rattle.machine_laws.specs.GoesFirst.{GoesFirst}
 
 -- after n steps
 pub record Laws (s : Sheet) (n : ℕ) : Type 0 where

@@ -1,44 +1,30 @@
 -- What a turn does, whatever its call: the lists stay those of well-formed tables, the notices move as History says, time does not go
 -- back, positions stay in the sheet, and accumulators as required.
 use Rattle.std.specs.Prelude.{ℕ, ◌-◌, ◌≤◌, ◌≡◌, refl, Bool, true, false, ◌&&◌, List, eqb, length, get_or, set, if◌then◌else◌}
-use Rattle.std.proofs.Common.{ap, ◌∙◌, subst, arith, get_or-set_same, get_or-set_other, eqb-true}
+use Rattle.std.proofs.Common.{subst, arith, get_or-set_same, get_or-set_other, eqb-true}
 use Rattle.std.proofs.Math.ListN.{length-set}
 use Rattle.std.proofs.Math.Seq.{set_out}
 use Rattle.std.proofs.lemmas.Bool.{eqb-false}
-use Rattle.ring_laws.specs.Lists.{In, decide, below, test}
+use Rattle.ring_laws.specs.Lists.{decide, below, test}
 use Rattle.model.specs.declared.Counts.{Counts}
-use Rattle.model.specs.Counts.{Allowed}
 use Rattle.model_laws.specs.Tables.{Tables, Lists, Spells}
-use Rattle.axis_laws.specs.Notices.{whos}
-use Rattle.model_laws.specs.Formed.{notice_each, notice_process}
-use Rattle.model_laws.specs.Once.{spelled_sized}
-use Rattle.model_laws.specs.NowLaws.{splits}
-use Rattle.model_laws.specs.Result.{Follows, done, refused, Result}
+use Rattle.model_laws.specs.Result.{done, refused, Result}
 use Rattle.model_laws.specs.Now.{time}
-use Rattle.simulation_laws.specs.Forward.{Later}
 use Rattle.accum_laws.specs.declared.Updated.{Updated}
 use Rattle.accum_laws.specs.declared.Updated.TheVariants.{To, Refused as NotUpdated}
 use Rattle.accum_laws.specs.Update.{updated_of}
-use Rattle.accum_laws.specs.Keeps.{zero_accumulator, required_later}
-use Rattle.accum_laws.specs.Triples.{numbered, list_after, updated_at}
+use Rattle.accum_laws.specs.Triples.{numbered}
 use Rattle.accum_laws.specs.Runs.{Each}
-use Rattle.accum_laws.proofs.Runs.{each_kept}
 use Rattle.sheet.specs.declared.header.Header.{Header}
 use Rattle.sheet.specs.declared.records.Record.{Record}
 use Rattle.sheet.specs.Sheet.{Sheet}
 use Rattle.sheet.specs.Fields.{Ranged}
-use Rattle.machine.specs.declared.End.{End}
 use Rattle.machine.specs.Machine.{Machine}
 use Rattle.machine.specs.Calls.{Call, on_list, accum, lists_after, lifted, storing, perform}
-use Rattle.machine.specs.Steps.{record_of, record_now, next_of, call_now, next_now, line_now, Turn, ended, stepped, moved_on}
-use Rattle.machine.specs.Run.{turn, onward}
-use Rattle.machine.specs.History.{Stepwise, placing, placing_of, list_placing, if_stepped}
-use Rattle.machine_laws.specs.StepLaws.{stepwise_same}
-use Rattle.machine_laws.specs.CallLaws.{Notices, call_notices, call_forward}
-use Rattle.run_laws.specs.OnTables.{tables_after}
-use Rattle.run_laws.specs.PerformFollows.{lists_follow}
+use Rattle.machine.specs.Steps.{record_of, record_now, next_of, next_now}
+use Rattle.machine.specs.History.{Stepwise, placing_of}
 use Rattle.machine_laws.specs.Invariant.{header_is, InRange}
-use Rattle.machine_laws.specs.TurnCases.{Then, turn_cases}
+use Rattle.machine_laws.specs.TurnCases.{Then}
 
 -- the lists are those of some well-formed tables
 abbrev pub Spelled : Counts → Lists → Type 0

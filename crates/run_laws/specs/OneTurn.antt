@@ -1,24 +1,10 @@
 -- One turn as a whole: what its code leaves is `turn_on`, and what that makes of the turns that are left.
-use Rattle.std.specs.Prelude.{ℕ, ◌+◌, ◌*◌, ◌<◌, ◌≡◌, refl, ◌≢◌, Bool, true, false, ◌&&◌, List, eqb, length, get_or}
-use Rattle.std.proofs.Common.{sym, ap, ◌∙◌, subst}
-use Rattle.ring_laws.specs.Lists.{test, clash}
-use Rattle.model.specs.declared.Counts.{Counts}
+use Rattle.std.specs.Prelude.{ℕ, ◌≡◌, refl, true, false}
+use Rattle.std.proofs.Common.{ap}
+use Rattle.ring_laws.specs.Lists.{clash}
 use Rattle.model.specs.declared.Refusal.{Refusal}
-use Rattle.model.specs.declared.verdict.Verdict.TheVariants.{Fine, Refused as Judged}
-use Rattle.model_laws.specs.Now.{half, first_of}
-use Rattle.sheet.specs.Sheet.{record_offset}
-use Rattle.machine.specs.declared.End.TheVariants.{Finished, Refused as Ended}
-use Rattle.machine.specs.Run.{line_size}
 use Rattle.run_laws.specs.declared.Turn.TheVariants.{Finished as AtEnd, Made, Refused as NotMade}
-use Rattle.run_laws.specs.Run.{RunTables, run_of, Turned, On, Off, Stepped, record_got, record_at_now, step_on, ends_now, TurnedOn, turn_by}
-use Rattle.run_laws.specs.Run.{turn_on, RanOn, stopped_on}
-use Rattle.run_laws.specs.Performed.{Performed, performed, verdict_by, goes_to, turned_to, refused_of}
-use Rattle.run_laws.specs.Tried.{apart}
-use Rattle.run_laws.specs.Needs.{Performable}
-use Rattle.run_laws.specs.Standing.{Standing, its_step}
-use Rattle.run_laws.specs.StepIs.{Went}
-use Rattle.run_laws.specs.Turning.{Turning}
-use Rattle.run_laws.specs.Running.{Here, here_at}
+use Rattle.run_laws.specs.Run.{Turned, On, Off, turn_by}
 
 -- ---- what the code of a turn leaves, with current's place f, time and record r read off the tables
 

@@ -1,7 +1,6 @@
 -- Every call on tables that spell the machine does what the machine's call does, with the same refusals.
-use Rattle.std.specs.Prelude.{ℕ, ◌≡◌, List, ℤ}
+use Rattle.std.specs.Prelude.{◌≡◌, List, ℤ}
 use Rattle.std.proofs.Math.Path.{refl, subst}
-use Rattle.std.proofs.Common.{sym, ap, ◌∙◌}
 use Rattle.ring_laws.specs.Lists.{test}
 use Rattle.model.specs.declared.Counts.{Counts}
 use Rattle.model.specs.Counts.{is_head}
@@ -10,20 +9,14 @@ use Rattle.model.specs.declared.answer.Answer.TheVariants.{Done, Refused}
 use Rattle.model_laws.specs.Tables.{Tables, Lists, After, Sized, Spells}
 use Rattle.model_laws.specs.Called.{called}
 use Rattle.model_laws.specs.Result.{Follows, done, refused, Result}
-use Rattle.model_laws.specs.Now.{time}
 use Rattle.simset_laws.proofs.Meaning.{called_is, set_follows}
 use Rattle.simulation_laws.specs.Plain as plain
 use Rattle.simulation_laws.specs.Calls.{hold_step, passivate_step, cancel_step, timed_step, finish_step, wait_step, on_sqs, on_marks, on_sets}
 use Rattle.simulation_laws.proofs.Meaning.{hold_means, passivate_means, wait_means, cancel_means, timed_means, finish_means}
-use Rattle.accum_laws.specs.declared.Updated.{Updated}
-use Rattle.accum_laws.specs.declared.Updated.TheVariants.{To, Refused as NotUpdated}
-use Rattle.accum_laws.specs.Update.{updated_of}
-use Rattle.accum_laws.specs.Flat.{Changed, updated_in}
-use Rattle.accum_laws.specs.Triples.{flat, numbered, list_after, updated_at, flat_updated}
+use Rattle.accum_laws.specs.Triples.{flat}
 use Rattle.machine.specs.Machine.{Machine}
-use Rattle.machine.specs.Calls.{ListCall, on_set, hold, passivate, wait, cancel, activate, if_empty, finish, Call, on_list, accum, lists_after}
-use Rattle.machine.specs.Calls.{lifted, storing, perform}
-use Rattle.run_laws.specs.OnTables.{tables_after, Carried, carried_out}
+use Rattle.machine.specs.Calls.{ListCall, on_set, hold, passivate, wait, cancel, activate, if_empty, finish, lists_after}
+use Rattle.run_laws.specs.OnTables.{tables_after, Carried}
 
 -- ---- the calls on lists
 

@@ -1,24 +1,12 @@
 -- What the readers answer, from their tests.
-use Rattle.std.specs.Prelude.{ℕ, ◌+◌, ◌-◌, ◌≤◌, ◌<◌, ◌≡◌, ◌≢◌, Bool, true, ◌&&◌, List, leb, eqb, length, get_or}
+use Rattle.std.specs.Prelude.{ℕ, ◌≡◌, ◌≢◌, Bool, true, ◌&&◌, List}
 use Rattle.std.proofs.Math.Path.{refl, ap}
-use Rattle.std.proofs.Common.{sym, ◌∙◌, ⊎_elim, arith}
+use Rattle.std.proofs.Common.{◌∙◌}
 use Rattle.std.proofs.Math.Bool.{false}
-use borrow.Author.Tests.{eq-eqb, ne_eqb, lt-ltb, le-ltb, lt-leb, le-leb}
-use Rattle.ring_laws.specs.Lists.{decide, below}
-use Rattle.model.specs.declared.Counts.{Counts}
-use Rattle.model.specs.declared.Refusal.TheVariants.{Operand}
-use Rattle.model.specs.Counts.{total, is_head}
-use Rattle.model_laws.specs.Now.{half, first_of}
-use Rattle.simset_laws.specs.Procedures.{link_or}
+use borrow.Author.Tests.{eq-eqb, ne_eqb}
 use Rattle.sheet.specs.declared.records.Record.{Record}
 use Rattle.sheet.specs.Sheet.{record_offset, record_from, record_with}
-use Rattle.sheet.specs.Accepted.{is_operand, operand_base}
-use Rattle.sheet.specs.Fields.{operand_kinds}
-use Rattle.run_laws.specs.OnTables.{member_at, operand_with}
-use Rattle.run_laws.specs.Run.{end_record, record_got, ends_now}
-use Rattle.run_laws.specs.declared.Effect.TheVariants.{Stays, Jumps, Refused}
-use Rattle.run_laws.specs.Performed.{branched}
-use Rattle.run_laws.specs.Needs.{Resolvable}
+use Rattle.run_laws.specs.Run.{end_record, record_got}
 
 pub and_false : (a : Bool) → (a && false) ≡ false
 and_false true = refl

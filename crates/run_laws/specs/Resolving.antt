@@ -1,27 +1,14 @@
 -- Reading tables that spell the machine's lists: current, time, first members and so every operand are the machine's.
-use Rattle.std.specs.Prelude.{ℕ, ◌+◌, ◌-◌, ◌<◌, ◌≤◌, ◌≡◌, refl, true, List, [], ◌∷◌, ltb, eqb}
-use Rattle.std.proofs.Common.{sym, ap, ◌∙◌, inl, leb-true, leb-false, ltb-false, lt-ltb}
-use native.Mathlib.Omega.{arith}
-use Rattle.std.proofs.lemmas.Bool.{eqb-false}
-use Rattle.ring_laws.specs.Lists.{In, test}
+use Rattle.std.specs.Prelude.{ℕ, ◌<◌, ◌≡◌, refl, List, [], ◌∷◌}
+use Rattle.std.proofs.Common.{sym, ap, ◌∙◌, inl, leb-true, leb-false}
+use Rattle.ring_laws.specs.Lists.{In}
 use Rattle.ring_laws.specs.Chain.{Chain}
 use Rattle.ring_laws.specs.Rings.{Head}
 use Rattle.ring_laws.specs.Stores.{sucs, pres, suc_at}
-use Rattle.model.specs.declared.Counts.{Counts}
-use Rattle.model.specs.Counts.{total, is_head}
-use Rattle.model_laws.specs.Tables.{Tables, Lists, Sized, set_head, members_of, SpellsSets, Spells}
-use Rattle.model_laws.proofs.NowLaws.{current_now, time_now}
-use Rattle.model_laws.specs.Now.{time, current, time_of, half}
+use Rattle.model_laws.specs.Tables.{set_head, members_of, SpellsSets}
 use Rattle.simset_laws.specs.Procedures as procedures
-use Rattle.simset_laws.specs.Sets.{no_links}
-use Rattle.simset_laws.specs.Laws.{set_head_lem}
-use Rattle.simset_laws.specs.QueryLaws.{or_link, or_none_lem, empty_says}
-use Rattle.simset_laws.specs.Meaning.{head_of_lem}
-use Rattle.sheet.specs.Accepted.{is_operand, operand_base}
-use Rattle.sheet.specs.Fields.{operand_high}
-use Rattle.machine.specs.Operands.{first_in, first_process, takes_process, member_meant, operand_of}
-use Rattle.run_laws.specs.OnTables.{current_at, first_at, process_at, member_at, operand_with, operand_at}
-use Rattle.run_laws.specs.Walking.{process_of}
+use Rattle.simset_laws.specs.QueryLaws.{or_link, or_none_lem}
+use Rattle.machine.specs.Operands.{first_in}
 
 -- the successor of a head is its first member, none where it has none
 pub first_of : (m H : ℕ) (sets : List (List ℕ)) (t : List ℕ) → SpellsSets m H sets t → (h : ℕ) → Head m (set_head H) h

@@ -1,20 +1,10 @@
 -- The loop's variables: current's place, time and record beside the tables, and what a step makes of them.
-use Rattle.std.specs.Prelude.{ℕ, ◌+◌, ◌*◌, ◌<◌, ◌≡◌, refl, ◌≢◌, Bool, true, false, ◌&&◌, List, eqb, length, get_or, set}
+use Rattle.std.specs.Prelude.{ℕ, ◌≡◌, List, get_or, set}
 use Rattle.std.proofs.Common.{sym, ap, subst, ◌∙◌}
 use Rattle.std.proofs.lemmas.List.{set-get_or}
 use Rattle.model.specs.declared.Counts.{Counts}
-use Rattle.model.specs.declared.Refusal.{Refusal}
 use Rattle.model_laws.specs.Now.{half, time_of, first_of}
-use Rattle.sheet.specs.Sheet.{record_offset}
-use Rattle.machine.specs.declared.End.TheVariants.{Refused}
-use Rattle.machine.specs.Run.{line_size}
-use Rattle.run_laws.specs.declared.Effect.TheVariants.{Refused as NotDone}
-use Rattle.run_laws.specs.Run.{RunTables, run_of, On, Off, Stepped, record_got, record_at_now, step_on, ends_now, RanOn, stopped_on}
-use Rattle.run_laws.specs.Performed.{Performed, performed, turned_by}
-use Rattle.run_laws.specs.Needs.{Performable}
-use Rattle.run_laws.specs.Standing.{its_step}
-use Rattle.run_laws.specs.StepIs.{Went, stayed}
-use Rattle.run_laws.specs.Turning.{Turning}
+use Rattle.run_laws.specs.Run.{RunTables, run_of, record_at_now}
 
 pub record Here (c : Counts) (u : RunTables) (f time r : ℕ) : Type 0 where
   pub place_is : f ≡ first_of (half c) u.model.axis

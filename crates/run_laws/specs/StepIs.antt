@@ -1,26 +1,18 @@
 -- What the step's code leaves, from what its call came to.
-use Rattle.std.specs.Prelude.{ℕ, ◌≡◌, Bool, true, false, ◌&&◌, List, eqb, ℤ, set, if◌then◌else◌}
+use Rattle.std.specs.Prelude.{ℕ, ◌≡◌, Bool, true, false, List, ℤ, set}
 use Rattle.std.proofs.Math.Path.{refl, sym, ap}
-use Rattle.std.proofs.Common.{◌∙◌, eqb-true}
-use Rattle.ring_laws.specs.Lists.{test, clash}
+use Rattle.std.proofs.Common.{◌∙◌}
+use Rattle.ring_laws.specs.Lists.{clash}
 use Rattle.model.specs.declared.Counts.{Counts}
-use Rattle.model.specs.declared.Refusal.{Refusal}
-use Rattle.model.specs.Counts.{linkage_at, both}
-use Rattle.model.specs.declared.answer.Answer.{Answer}
-use Rattle.model.specs.declared.answer.Answer.TheVariants.{Done, Linkage, Number, Truth, Refused as NotDone}
+use Rattle.model.specs.Counts.{linkage_at}
 use Rattle.model_laws.specs.Tables.{Tables}
-use Rattle.model_laws.specs.Now.{half, time_of, first_of}
-use Rattle.simset_laws.specs.Procedures.{empty_of}
-use Rattle.sheet.specs.declared.records.Record.{Record}
 use Rattle.trace.specs.Lines.{put, line_bytes}
 use Rattle.machine.specs.Calls.{on_set, hold, passivate, wait, cancel, activate, if_empty, finish, Call, on_list, accum}
-use Rattle.machine.specs.Steps.{next_of}
-use Rattle.run_laws.specs.OnTables.{tables_after, Carried, carried_out}
+use Rattle.run_laws.specs.OnTables.{tables_after, carried_out}
 use Rattle.run_laws.specs.declared.Effect.{Effect}
 use Rattle.run_laws.specs.declared.Effect.TheVariants.{Stays, Jumps, Moves, Refused, Apart}
-use Rattle.run_laws.specs.Run.{RunTables, run_of, Turned, On, Off, record_got, resolved, call_due, turned_of, moved, record_at_now, due_in}
-use Rattle.run_laws.specs.Run.{line_in, step_on}
-use Rattle.run_laws.specs.Performed.{call_effect, stays_or_moves, effect_of, unless_refused, Performed, performed, turned_by}
+use Rattle.run_laws.specs.Run.{On}
+use Rattle.run_laws.specs.Performed.{call_effect, turned_by}
 
 -- after an accepted call the process at place f is at next, and its line stands at byte i
 pub record Went (c : Counts) (f time r i next : ℕ) (ps tr ps' tr' : List ℕ) : Type 0 where

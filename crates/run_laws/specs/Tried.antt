@@ -5,26 +5,20 @@ use Rattle.std.proofs.Math.Path.{refl, sym, ap}
 use Rattle.std.proofs.Common.{◌∙◌}
 use Rattle.std.proofs.Math.Bool.{true, false, not}
 use Rattle.std.proofs.Math.Dec.{eqb}
-use borrow.Author.Tests.{ne_eqb, eqb-true, leb-true, not-true}
-use Rattle.ring_laws.specs.Lists.{test, clash}
+use borrow.Author.Tests.{ne_eqb, leb-true, not-true}
 use Rattle.ring_laws.specs.Tabulate.{has}
 use Rattle.model.specs.declared.Counts.{Counts}
 use Rattle.model.specs.Counts.{both, is_process}
-use Rattle.model.specs.declared.answer.Answer.{Answer}
-use Rattle.model.specs.declared.answer.Answer.TheVariants.{Done, Linkage, Number, Truth, Refused as NotDone}
 use Rattle.model_laws.specs.Tables.{Tables}
-use Rattle.simset_laws.specs.Procedures.{empty_of}
 use Rattle.simset_laws.specs.Full.{known_room}
 use Rattle.simset_laws.specs.Calls.{or_none}
 use Rattle.sheet.specs.declared.records.Record.{Record}
 use Rattle.sheet.specs.Operations.{last_operation}
 use Rattle.sheet.specs.AllTo.{all_to, all_at}
-use Rattle.machine.specs.Calls.{Call}
-use Rattle.run_laws.specs.OnTables.{operand_with, carried_out}
+use Rattle.run_laws.specs.OnTables.{operand_with}
 use Rattle.run_laws.specs.declared.Effect.{Effect}
 use Rattle.run_laws.specs.declared.Effect.TheVariants.{Stays, Jumps, Moves, Refused, Apart}
-use Rattle.run_laws.specs.Run.{resolved, call_due}
-use Rattle.run_laws.specs.Performed.{call_effect, stays_or_moves, effect_of, unless_refused, Performed, performed}
+use Rattle.run_laws.specs.Performed.{Performed, performed}
 
 -- out, hold, if-empty and accum are made in a stretch, whatever their operands are; others may be made apart
 abbrev pub made_here : ℕ → Bool

@@ -1,22 +1,12 @@
 -- The loop over turns: what is left to do from here comes to the whole, and the tables are still a machine's.
-use Rattle.std.specs.Prelude.{ℕ, suc, ◌+◌, ◌*◌, ◌-◌, ◌/◌, ◌≤◌, ◌<◌, ◌≡◌, refl, true, false, List, length, get_or}
+use Rattle.std.specs.Prelude.{ℕ, ◌+◌, ◌/◌, ◌≤◌, ◌≡◌, refl, List, length}
 use Rattle.std.proofs.Math.Path.{sym, ap}
-use Rattle.std.proofs.Common.{◌∙◌, subst, arith, get_or-set_same}
-use Rattle.ring_laws.specs.Lists.{clash}
+use Rattle.std.proofs.Common.{◌∙◌, arith}
 use Rattle.model.specs.declared.Counts.{Counts}
-use Rattle.model.specs.declared.Refusal.{Refusal}
-use Rattle.model_laws.specs.Now.{half, first_of}
-use Rattle.model_laws.specs.Result.{done, refused, Result}
-use Rattle.sheet.specs.Sheet.{counts_of, sheet_of}
-use Rattle.machine.specs.declared.End.TheVariants.{Finished, Full, Refused}
-use Rattle.machine.specs.Machine.{Machine}
-use Rattle.machine.specs.Calls.{perform}
-use Rattle.machine.specs.Steps.{call_now, moved_on}
 use Rattle.machine.specs.Run.{line_size, trace_limit}
-use Rattle.run_laws.specs.OnTables.{Carried, carried_out}
-use Rattle.run_laws.specs.Run.{RunTables, Turned, On, Off, Stepped, call_due, turned_of, moved, due_in, line_in, step_on, ends_now, RanOn}
-use Rattle.run_laws.specs.Run.{stopped_on, turns_on}
-use Rattle.run_laws.specs.Standing.{Standing, sized, ready, positions_length, words_length}
+use Rattle.run_laws.specs.Run.{RunTables, RanOn}
+use Rattle.run_laws.specs.Run.{turns_on}
+use Rattle.run_laws.specs.Standing.{Standing, sized, positions_length, words_length}
 
 -- ---- an accepted step leaves tables of a machine
 

@@ -1,8 +1,8 @@
 -- Bounds of the sets' sizes, kept beside a table of links, so that a call that enters a set need not count it: a bound below 512 is at
 -- least the size of its head's set, and one of 512 says nothing.
-use Rattle.std.specs.Prelude.{ℕ, ◌+◌, ◌-◌, ◌<◌, ◌≤◌, ◌≡◌, ◌≢◌, true, false, List, ◌∷◌, eqb, length, get_or, set}
-use Rattle.std.proofs.Common.{sym, ap, ◌∙◌, arith, length-set, get_or-set_same, get_or-set_other, eq-eqb, ne_eqb}
-use Rattle.ring_laws.specs.Lists.{decide, inside, clash}
+use Rattle.std.specs.Prelude.{ℕ, ◌+◌, ◌<◌, ◌≤◌, ◌≡◌, ◌≢◌, true, List, ◌∷◌, eqb, length, get_or, set}
+use Rattle.std.proofs.Common.{sym, ap, ◌∙◌, arith, get_or-set_same, get_or-set_other, eq-eqb, ne_eqb}
+use Rattle.ring_laws.specs.Lists.{decide, inside}
 use Rattle.ring_laws.specs.Tabulate.{bit}
 use Rattle.ring_laws.specs.Rings.{Head, Link}
 use Rattle.ring_laws.specs.Table.{unlinked}
@@ -11,7 +11,7 @@ use Rattle.model.specs.Counts.{total, most_members, is_link}
 use Rattle.model_laws.specs.Tables.{set_head, members_of, SpellsSets}
 use Rattle.simset_laws.specs.Sets.{each_set, out_sets}
 use Rattle.simset_laws.specs.Procedures.{followed, preceded, cardinal_of, cleared}
-use Rattle.simset_laws.specs.Full.{many, set_at, free_to}
+use Rattle.simset_laws.specs.Full.{many, set_at}
 use Rattle.simset_laws.specs.SizeLaws.{Puts, puts_behind, puts_ahead, out_few, clear_few}
 use Rattle.simset_laws.specs.Laws.{set_head_lem, sets_out}
 use Rattle.simset_laws.proofs.Laws.{sets_followed, sets_preceded}

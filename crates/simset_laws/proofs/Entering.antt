@@ -1,16 +1,14 @@
 -- What the code of a call that enters a set promises beside its answer: that the bounds of the sets' sizes hold after it. The other set
 -- calls leave them as they are.
-use Rattle.std.specs.Prelude.{ℕ, ◌+◌, ◌≤◌, ◌≡◌, refl, Bool, true, false, ◌&&◌, List, if◌then◌else◌}
+use Rattle.std.specs.Prelude.{ℕ, ◌+◌, ◌≤◌, ◌≡◌, refl, Bool, true, false, List, if◌then◌else◌}
 use Rattle.std.proofs.Common.{sym, ap, ◌∙◌, arith, le-leb}
 use Rattle.ring_laws.specs.Lists.{test, clash}
 use Rattle.ring_laws.specs.Table.{Sound, Made, unlinked}
 use Rattle.model.specs.declared.Counts.{Counts}
-use Rattle.model.specs.declared.Refusal.{Refusal}
 use Rattle.model.specs.declared.Refusal.TheVariants.{Operand, Full}
 use Rattle.model.specs.declared.verdict.Verdict.{Verdict}
 use Rattle.model.specs.declared.verdict.Verdict.TheVariants.{Fine, Refused as Not}
 use Rattle.model.specs.Counts.{total, is_head, is_link, is_linkage}
-use Rattle.model.specs.declared.answer.Answer.{Answer}
 use Rattle.model.specs.declared.answer.Answer.TheVariants.{Done, Refused}
 use Rattle.simset_laws.specs.Procedures.{cleared}
 use Rattle.simset_laws.specs.Full.{set_at, many, full_for, free_to}

@@ -1,21 +1,16 @@
 -- The procedures do to the sets what the list operations say, for every table that spells sets.
-use Rattle.std.specs.Prelude.{ℕ, ◌+◌, ◌-◌, ◌<◌, ◌≤◌, ◌≡◌, refl, ◌≢◌, ◌⊎◌, List, [], ◌∷◌, length, get_or}
-use Rattle.std.proofs.Common.{sym, ap, ◌∙◌, subst, inl, inr, ⊎_elim, arith, leb-true, le-leb}
-use Rattle.std.proofs.lemmas.List.{length-map}
+use Rattle.std.specs.Prelude.{ℕ, ◌-◌, ◌<◌, ◌≡◌, refl, List, [], get_or}
+use Rattle.std.proofs.Common.{sym, ap, ◌∙◌, ⊎_elim}
 use Rattle.std.proofs.Math.ListN.{get_or-map}
-use Rattle.ring_laws.specs.Lists.{In, without, behind, ahead, decide, without_gone, behind_none}
-use Rattle.ring_laws.specs.Rings.{Head, Link, Rings, kind, next_place_lem}
-use Rattle.ring_laws.specs.Table.{unlinked, linked_behind, linked_before}
-use Rattle.ring_laws.specs.Stores.{sucs, pres, suc_at}
-use Rattle.ring_laws.specs.Spell.{spells_cong}
-use Rattle.ring_laws.proofs.Spell.{spells_unlinked, spells_behind, spells_before}
-use Rattle.ring_laws.specs.Spell as ring
+use Rattle.ring_laws.specs.Lists.{without, decide, without_gone}
+use Rattle.ring_laws.specs.Rings.{Link}
+use Rattle.ring_laws.specs.Table.{unlinked}
+use Rattle.ring_laws.specs.Stores.{sucs, suc_at}
 use Rattle.model_laws.specs.Tables.{set_head, members_of, SpellsSets}
-use Rattle.simset_laws.specs.Sets.{each_set, out_sets, put_behind, put_ahead, follow_sets, precede_sets}
+use Rattle.simset_laws.specs.Sets.{out_sets, follow_sets, precede_sets}
 use Rattle.simset_laws.specs.Procedures.{followed, preceded}
 use Rattle.simset_laws.specs.Moves.{follow_none, follow_off, follow_on_lem, precede_none, precede_off, precede_on_lem, followed_is}
 use Rattle.simset_laws.specs.Moves.{preceded_is}
-use Rattle.simset_laws.specs.EachSet.{length_on, get_or_on, on_same, ahead_none}
 use Rattle.simset_laws.specs.Laws.{stands, sets_out, sets_behind, sets_ahead, behind_nowhere, ahead_nowhere}
 
 -- ---- follow and precede

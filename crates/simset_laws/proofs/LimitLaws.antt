@@ -1,9 +1,9 @@
 -- Request 2.5 in so many words: refusal 10 means that some set would have just 513 members; and who never meets it.
-use Rattle.std.specs.Prelude.{ℕ, suc, ◌+◌, ◌-◌, ◌<◌, ◌≤◌, ◌≡◌, true, false, List, [], ◌∷◌, ltb, length, get_or}
-use Rattle.std.proofs.Common.{sym, ap, ◌∙◌, subst, arith, ltb-true}
+use Rattle.std.specs.Prelude.{ℕ, suc, ◌+◌, ◌-◌, ◌<◌, ◌≤◌, ◌≡◌, true, false, List, [], ◌∷◌, length, get_or}
+use Rattle.std.proofs.Common.{sym, ap, ◌∙◌, subst, arith}
 use Rattle.std.proofs.lemmas.List.{length-map}
 use Rattle.std.proofs.Math.ListN.{get_or-map, get_or-eq_default}
-use Rattle.ring_laws.specs.Lists.{In, without, inside, below, test, clash}
+use Rattle.ring_laws.specs.Lists.{In, without, inside, below}
 use Rattle.ring_laws.specs.Distinct.{without_le}
 use Rattle.ring_laws.specs.Rings.{Head, Link}
 use Rattle.ring_laws.specs.Stores.{sucs}

@@ -1,12 +1,11 @@
 -- Demand 2 for the class SIMSET: for every well-formed model each set call does what the plain call does to the lists, refused by 3 or 10
 -- on their conditions alone and then with every word as it was, and tells what request 2.1 asks for; a query answers what the lists say,
 -- or 3 on its condition.
-use Rattle.std.specs.Prelude.{ℕ, ◌+◌, ◌<◌, ◌≡◌, Bool, true, false, ◌&&◌, List, leb, ltb, length}
+use Rattle.std.specs.Prelude.{ℕ, ◌+◌, ◌<◌, ◌≡◌, Bool, true, false, ◌&&◌, List, length}
 use Rattle.std.proofs.Math.Path.{refl, ap}
-use Rattle.std.proofs.Common.{sym, ◌∙◌, arith, leb-true, ltb-true}
-use Rattle.std.proofs.lemmas.Bool.{lt-leb}
+use Rattle.std.proofs.Common.{sym, ◌∙◌, arith}
 use Rattle.ring_laws.specs.Lists.{test}
-use Rattle.ring_laws.specs.Rings.{Head, Link}
+use Rattle.ring_laws.specs.Rings.{Link}
 use Rattle.model.specs.declared.Counts.{Counts}
 use Rattle.model.specs.Counts.{total, is_head, is_link, is_linkage, both}
 use Rattle.model.specs.declared.answer.Answer.{Answer}
@@ -27,7 +26,7 @@ use Rattle.simset_laws.specs.Procedures.{preceded, suc_of, pred_of}
 use Rattle.simset_laws.specs.Full.{full_for}
 use Rattle.simset_laws.specs.Plain.{kinds_fine, with_sets, unless_full, set_call, links_after}
 use Rattle.simset_laws.specs.Told.{head_of, set_tells, head_told, set_told, set_answered}
-use Rattle.simset_laws.specs.Promise.{link_in, linkage_in, head_in, none_or}
+use Rattle.simset_laws.specs.Promise.{linkage_in, head_in, none_or}
 use Rattle.simset_laws.specs.Laws.{sets_out}
 use Rattle.simset_laws.proofs.Laws.{sets_followed, sets_preceded}
 use Rattle.simset_laws.proofs.ClearLaw.{sets_cleared}

@@ -1,12 +1,9 @@
 -- A walk along a ring of links, by the successors, to the first place of some kind: its clauses, and what a loop that makes it keeps. The
 -- heads are 1 .. H, and 0 is none.
-use Prim.Native.Nat.{ℕ, zero, suc, ◌-◌, ◌<◌, ◌≤◌}
-use Rattle.std.specs.Prelude.{◌≡◌, Bool, true, false, List, leb, get_or, if◌then◌else◌}
-use Rattle.std.proofs.Math.Path.{refl}
+use Prim.Native.Nat.{ℕ, suc, ◌-◌, ◌<◌, ◌≤◌}
+use Rattle.std.specs.Prelude.{◌≡◌, Bool, true, false, List, get_or}
 use Rattle.std.proofs.Common.{sym, ap, ◌∙◌}
 use native.Mathlib.Omega.{arith}
-use borrow.Author.Tests.{le-leb, lt-leb, leb-true}
-use Rattle.ring_laws.specs.Lists.{test}
 use Rattle.ring_laws.specs.Table.{Sound}
 use Rattle.simset_laws.specs.Walk.{first_from, from_zero, from_found, from_head, from_on, Walking}
 

@@ -1,21 +1,14 @@
 -- Bounds of the sets' sizes, kept beside a table of links, so that a call that enters a set need not count it: a bound below 512 is at
 -- least the size of its head's set, and one of 512 says nothing.
-use Rattle.std.specs.Prelude.{ℕ, ◌+◌, ◌-◌, ◌<◌, ◌≤◌, ◌≡◌, ◌≢◌, true, false, List, ◌∷◌, eqb, length, get_or, set}
-use Rattle.std.proofs.Common.{sym, ap, ◌∙◌, arith, length-set, get_or-set_same, get_or-set_other, eq-eqb, ne_eqb}
-use Rattle.ring_laws.specs.Lists.{decide, inside, clash}
+use Rattle.std.specs.Prelude.{ℕ, ◌+◌, ◌<◌, ◌≤◌, ◌≡◌, true, false, List, eqb, length, get_or, set}
+use Rattle.std.proofs.Common.{sym, ◌∙◌, arith, length-set, get_or-set_other, ne_eqb}
+use Rattle.ring_laws.specs.Lists.{clash}
 use Rattle.ring_laws.specs.Tabulate.{bit}
-use Rattle.ring_laws.specs.Rings.{Head, Link}
-use Rattle.ring_laws.specs.Table.{unlinked}
 use Rattle.model.specs.declared.Counts.{Counts}
-use Rattle.model.specs.Counts.{total, most_members, is_link}
-use Rattle.model_laws.specs.Tables.{set_head, members_of, SpellsSets}
-use Rattle.simset_laws.specs.Sets.{each_set, out_sets}
-use Rattle.simset_laws.specs.Procedures.{followed, preceded, cardinal_of, cleared}
-use Rattle.simset_laws.specs.Full.{many, set_at, free_to}
-use Rattle.simset_laws.specs.SizeLaws.{Puts, puts_behind, puts_ahead, out_few, clear_few}
-use Rattle.simset_laws.specs.Laws.{set_head_lem, sets_out}
-use Rattle.simset_laws.specs.QueryLaws.{found, cardinal_says}
-use Rattle.simset_laws.specs.Meaning.{link_of}
+use Rattle.model.specs.Counts.{total, most_members}
+use Rattle.model_laws.specs.Tables.{SpellsSets}
+use Rattle.simset_laws.specs.Procedures.{cardinal_of}
+use Rattle.simset_laws.specs.Full.{many, free_to}
 
 -- words for the bounds of all heads, and two that no head has, for the free heads and the free linkages
 pub record Fits (c : Counts) (bounds : List ℕ) : Type 0 where

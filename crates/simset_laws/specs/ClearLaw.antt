@@ -8,11 +8,10 @@ use Rattle.ring_laws.specs.Chain.{Chain}
 use Rattle.ring_laws.specs.Rings.{Head, Link, Rings, rings_apart, rings_dist}
 use Rattle.ring_laws.specs.Table.{unlinked}
 use Rattle.ring_laws.specs.Stores.{sucs, pres, suc_at}
-use Rattle.ring_laws.proofs.Spell.{spells_few}
 use Rattle.model_laws.specs.Tables.{set_head, members_of, SpellsSets}
 use Rattle.simset_laws.specs.Sets.{out_sets, clear_sets}
-use Rattle.simset_laws.specs.Procedures.{clearing, cleared}
-use Rattle.simset_laws.specs.Moves.{clearing_done, clearing_on, cleared_is}
+use Rattle.simset_laws.specs.Procedures.{clearing}
+use Rattle.simset_laws.specs.Moves.{clearing_done, clearing_on}
 use Rattle.simset_laws.specs.Laws.{set_head_lem, sets_out}
 
 module _ (m H : ℕ) (sets : List (List ℕ)) (t : List ℕ) (s : SpellsSets m H sets t) (b : H < m) (h : ℕ) (a : Head m (set_head H) h) where

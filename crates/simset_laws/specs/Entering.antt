@@ -1,23 +1,20 @@
 -- What the code of a call that enters a set promises beside its answer: that the bounds of the sets' sizes hold after it. The other set
 -- calls leave them as they are.
-use Rattle.std.specs.Prelude.{ℕ, ◌+◌, ◌≤◌, ◌≡◌, refl, Bool, true, false, ◌&&◌, List, if◌then◌else◌}
-use Rattle.std.proofs.Common.{sym, ap, ◌∙◌, arith, le-leb}
-use Rattle.ring_laws.specs.Lists.{test, clash}
-use Rattle.ring_laws.specs.Table.{Sound, Made, unlinked}
+use Rattle.std.specs.Prelude.{ℕ, ◌+◌, ◌≡◌, refl, Bool, true, false, ◌&&◌, List}
+use Rattle.std.proofs.Common.{sym, ap, ◌∙◌}
+use Rattle.ring_laws.specs.Lists.{clash}
+use Rattle.ring_laws.specs.Table.{Sound, Made}
 use Rattle.model.specs.declared.Counts.{Counts}
 use Rattle.model.specs.declared.Refusal.{Refusal}
 use Rattle.model.specs.declared.Refusal.TheVariants.{Operand, Full}
 use Rattle.model.specs.declared.verdict.Verdict.{Verdict}
 use Rattle.model.specs.declared.verdict.Verdict.TheVariants.{Fine, Refused as Not}
-use Rattle.model.specs.Counts.{total, is_head, is_link, is_linkage}
+use Rattle.model.specs.Counts.{total}
 use Rattle.model.specs.declared.answer.Answer.{Answer}
 use Rattle.model.specs.declared.answer.Answer.TheVariants.{Done, Refused}
-use Rattle.simset_laws.specs.Procedures.{cleared}
-use Rattle.simset_laws.specs.Full.{set_at, many, full_for, free_to}
-use Rattle.simset_laws.specs.Calls.{Linked, linked_if, entered_if, or_none, out_step, clear_step}
-use Rattle.simset_laws.specs.Promise.{Moved, entry_not, entry_full, entered, party_fine}
-use Rattle.simset_laws.specs.Meaning.{link_of, head_of_lem}
-use Rattle.simset_laws.specs.BoundLaws.{Covers, Linking, covers_less, covers_few}
+use Rattle.simset_laws.specs.Calls.{Linked, entered_if}
+use Rattle.simset_laws.specs.Promise.{Moved, entered}
+use Rattle.simset_laws.specs.BoundLaws.{Covers, Linking}
 
 -- a test with the answer that is wanted, after which the bounds hold with a member more in the set of head k
 pub record Tested (c : Counts) (k : ℕ) (links : List ℕ) (want : Bool) (bounds : List ℕ) (got : Bool) : Type 0 where

@@ -1,19 +1,9 @@
 -- The walk from a link to its head finds the head in whose list the link stands; what that head is, and how many clear removes.
-use Rattle.std.specs.Prelude.{ℕ, zero, suc, ◌+◌, ◌-◌, ◌<◌, ◌≤◌, ◌≡◌, refl, ◌⊎◌, Bool, List, [], ◌∷◌, leb, length, get_or, set}
-use Rattle.std.proofs.Common.{sym, ap, ◌∙◌, inl, inr, ⊎_elim, arith, length-append, le-leb, leb-true, leb-false}
-use Rattle.std.proofs.lemmas.Bool.{lt-leb}
-use Rattle.ring_laws.specs.Lists.{In}
-use Rattle.ring_laws.specs.Chain.{Chain}
+use Rattle.std.specs.Prelude.{ℕ, zero, suc, ◌+◌, ◌-◌, ◌≡◌, refl, List, [], ◌∷◌, length, get_or, set}
+use Rattle.std.proofs.Common.{arith, length-append}
 use Rattle.ring_laws.specs.Distinct.{joined}
-use Rattle.ring_laws.specs.Rings.{Head, Link}
-use Rattle.ring_laws.specs.Stores.{sucs, pres, suc_at}
-use Rattle.ring_laws.proofs.Spell.{spells_few}
-use Rattle.model_laws.specs.Tables.{set_head, members_of, SpellsSets}
+use Rattle.model_laws.specs.Tables.{members_of}
 use Rattle.simset_laws.specs.Sets.{clear_sets}
-use Rattle.simset_laws.specs.Walk.{first_from, head_at, from_found, from_on}
-use Rattle.simset_laws.specs.Told.{head_of}
-use Rattle.simset_laws.specs.Laws.{nowhere}
-use Rattle.simset_laws.specs.QueryLaws.{found, lost}
 
 -- ---- along the ring of h
 

@@ -1,24 +1,11 @@
 -- A refused set call changes no word, whatever the tables.
-use Rattle.std.specs.Prelude.{ℕ, ◌+◌, ◌≡◌, refl, Bool, true, false, ◌&&◌, List}
-use Rattle.std.proofs.Common.{ap}
+use Rattle.std.specs.Prelude.{ℕ, ◌≡◌, refl, Bool, true, false, List}
 use Rattle.ring_laws.specs.Lists.{clash}
-use Rattle.ring_laws.specs.Table.{unlinked}
-use Rattle.model.specs.declared.Counts.{Counts}
 use Rattle.model.specs.declared.Refusal.{Refusal}
-use Rattle.model.specs.Counts.{total, is_head, is_link, is_linkage, both}
 use Rattle.model.specs.declared.answer.Answer.{Answer}
 use Rattle.model.specs.declared.answer.Answer.TheVariants.{Linkage, Number, Refused}
-use Rattle.model.specs.declared.call.SetCall.{SetCall}
-use Rattle.model.specs.declared.call.SetCall.TheVariants.{Out, Follow, Precede, Into, Clear}
-use Rattle.model_laws.specs.Called.{called, if_accepted}
-use Rattle.model_laws.specs.Result.{KeepsRefused, answering_kept, called_kept}
-use Rattle.model_laws.specs.Tables.{model_of}
-use Rattle.simset_laws.specs.Procedures.{followed, preceded, cleared}
-use Rattle.simset_laws.specs.Calls.{linked_if, entered_if, told_if, or_none, on_links, of_links, out_step, follow_step, precede_step, into_step}
-use Rattle.simset_laws.specs.Calls.{clear_step, cardinal_told}
-use Rattle.simset_laws.specs.Full.{full_for}
-use Rattle.simset_laws.specs.Plain.{links_after}
-use Rattle.simset_laws.specs.Told.{head_told, set_told, set_answered}
+use Rattle.model_laws.specs.Called.{if_accepted}
+use Rattle.simset_laws.specs.Calls.{linked_if, entered_if, told_if}
 
 -- by one test
 pub if_kept : (b : Bool) (t u : List ℕ) (r : Refusal) → (linked_if b t u).answer ≡ Refused r → (linked_if b t u).links ≡ t

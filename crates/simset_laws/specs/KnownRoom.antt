@@ -1,18 +1,16 @@
 -- Room that is known with no count, by the bound of the set's size: what the quick test of a stretch of turns means.
-use Rattle.std.specs.Prelude.{ℕ, ◌+◌, ◌<◌, ◌≤◌, ◌≡◌, Bool, ◌&&◌, List, get_or, set, if◌then◌else◌}
-use Rattle.std.proofs.Math.Path.{refl, ap}
+use Rattle.std.specs.Prelude.{ℕ, ◌≤◌, ◌≡◌, Bool, ◌&&◌, List, get_or, if◌then◌else◌}
+use Rattle.std.proofs.Math.Path.{refl}
 use Rattle.std.proofs.Common.{sym, ◌∙◌, arith}
 use Rattle.std.proofs.Math.Bool.{true, false}
 use Rattle.std.proofs.Math.Dec.{leb, ltb}
-use borrow.Author.Tests.{ne_eqb, le-leb, lt-leb, leb-true, leb-false, le-ltb, lt-ltb, ltb-true}
 use Rattle.ring_laws.specs.Lists.{test, clash}
 use Rattle.model.specs.declared.Counts.{Counts}
-use Rattle.model.specs.Counts.{total, most_members, is_head, is_link}
-use Rattle.simset_laws.specs.Procedures.{preceded, cardinal_of}
-use Rattle.simset_laws.specs.Full.{set_at, full_at, many, full_for, free_to, known_room, one_more, raised}
-use Rattle.simset_laws.specs.Calls.{Linked, entered_if, or_none, into_step}
-use Rattle.simset_laws.specs.Promise.{Moved, party_fine}
-use Rattle.simset_laws.specs.BoundLaws.{Covers, Linking, covers_less, covers_none, covers_few}
+use Rattle.model.specs.Counts.{most_members, is_head, is_link}
+use Rattle.simset_laws.specs.Full.{many, full_for, free_to, known_room, raised}
+use Rattle.simset_laws.specs.Calls.{or_none}
+use Rattle.simset_laws.specs.Promise.{party_fine}
+use Rattle.simset_laws.specs.BoundLaws.{Covers}
 
 -- a test of known room, and the bounds after it
 pub record Known (c : Counts) (y : ℕ) (bounds now : List ℕ) (got : Bool) : Type 0 where

@@ -1,5 +1,5 @@
 -- Request 2.5 on lists: how many members a list has after x was put beside y, and what it means that some set has too many.
-use Rattle.std.specs.Prelude.{ℕ, zero, suc, ◌-◌, ◌<◌, ◌≤◌, ◌≡◌, refl, true, false, List, [], ◌∷◌, map, ltb, length, get_or, set}
+use Rattle.std.specs.Prelude.{ℕ, zero, suc, ◌-◌, ◌<◌, ◌≤◌, ◌≡◌, refl, true, false, List, [], ◌∷◌, ltb, length, get_or, set}
 use Rattle.std.proofs.Common.{sym, ap, inl, inr, ⊎_elim, arith, eq-eqb, ne_eqb, le-ltb, lt-ltb, ltb-false}
 use Rattle.std.proofs.Math.ListN.{get_or-map}
 use Rattle.ring_laws.specs.Lists.{In, without, behind, ahead, decide, test, clash, behind_none}

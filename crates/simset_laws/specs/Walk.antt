@@ -1,13 +1,11 @@
 -- A walk along a ring of links, by the successors, to the first place of some kind: its clauses, and what a loop that makes it keeps. The
 -- heads are 1 .. H, and 0 is none.
-use Prim.Native.Nat.{ℕ, zero, suc, ◌-◌, ◌<◌, ◌≤◌}
+use Prim.Native.Nat.{ℕ, zero, suc, ◌<◌, ◌≤◌}
 use Rattle.std.specs.Prelude.{◌≡◌, Bool, true, false, List, leb, get_or, if◌then◌else◌}
 use Rattle.std.proofs.Math.Path.{refl}
-use Rattle.std.proofs.Common.{sym, ap, ◌∙◌}
 use native.Mathlib.Omega.{arith}
 use borrow.Author.Tests.{le-leb, lt-leb, leb-true}
 use Rattle.ring_laws.specs.Lists.{test}
-use Rattle.ring_laws.specs.Table.{Sound}
 
 -- from i on, by at most k places: the first place that f holds of, none where a head comes before it
 unfoldable pub first_from : (ℕ → Bool) → ℕ → List ℕ → ℕ → ℕ → ℕ

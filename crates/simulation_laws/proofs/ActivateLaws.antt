@@ -1,6 +1,6 @@
 -- ACTIVATE, as published, leaves what the plain machine's activate and reactivate leave, with the same refusals.
 use Prim.Native.Nat.{ℕ, max, ◌≤◌, ◌<◌}
-use Rattle.std.specs.Prelude.{◌≡◌, refl, ◌≢◌, ◌⊎◌, Bool, not, ◌&&◌, ◌||◌, List, [], ◌∷◌, ℤ, negsuc, ◌+ℤ◌, length, if◌then◌else◌}
+use Rattle.std.specs.Prelude.{◌≡◌, refl, ◌≢◌, ◌⊎◌, Bool, not, ◌&&◌, ◌||◌, List, [], ◌∷◌, ℤ, ◌+ℤ◌, length, if◌then◌else◌}
 use Rattle.std.proofs.Math.Path.{sym, subst}
 use Rattle.std.proofs.Common.{ap, ◌∙◌, ⊎_elim, not-suc-le-zero}
 use Rattle.std.proofs.Math.Logic.{inr}
@@ -8,7 +8,7 @@ use Rattle.std.proofs.Math.Bool.{true, false, and-false, or-true}
 use native.Mathlib.Omega.{arith}
 use Rattle.std.proofs.Math.Dec.{eqb, leb}
 use Rattle.std.proofs.Math.IntN.{pos, +ℤ_comm}
-use borrow.Author.Tests.{eq-eqb, ne_eqb, eqb-true, le-leb, lt-leb, lt-ltb, le-ltb}
+use borrow.Author.Tests.{eq-eqb, ne_eqb, eqb-true, le-leb, lt-leb}
 use Rattle.ring_laws.specs.Lists.{clash, In, decide, below, test}
 use Rattle.ring_laws.specs.Tabulate.{has}
 use Rattle.model.specs.declared.Counts.{Counts}
@@ -27,7 +27,7 @@ use Rattle.simulation_laws.specs.StepPromise.{clause_in}
 use Rattle.simulation_laws.specs.AgreeEnds.{has_in, has_none}
 use Rattle.simulation_laws.specs.Plain.{with_notices, up_to, leaving, above, is_delay, due_for, placed, no_effect, timed_need, named}
 use Rattle.simulation_laws.specs.Plain.{replaced, timed}
-use Rattle.simulation_laws.specs.Published.{unless_empty, clause_code, clause_prior, ev_out, new_notice, direct, at_least, at_time, at}
+use Rattle.simulation_laws.specs.Published.{clause_code, clause_prior, ev_out, new_notice, direct, at_least, at_time}
 use Rattle.simulation_laws.specs.Published.{before_or_after, by_code, ACTIVATE}
 use Rattle.simulation_laws.proofs.RankLaws.{rank_behind, rank_front}
 use Rattle.simulation_laws.specs.ActivateLaws.{error_is, at_least_max, within_due, within_limit}

@@ -1,22 +1,20 @@
 -- Hold on tables that spell lists does what the plain call does to the lists, with the same refusals; and what agreeing means.
 use Rattle.std.specs.Prelude.{ℕ, suc, ◌+◌, ◌-◌, ◌≤◌, ◌≡◌, true, false, List, [], ◌∷◌, leb, ℤ, get_or, set}
 use Rattle.std.proofs.Math.Path.{refl}
-use Rattle.std.proofs.Common.{sym, ◌∙◌, subst, ap, inl, inr, arith, get_or-take, eq-eqb, ne_eqb, lt-ltb, le-ltb, leb-true}
+use Rattle.std.proofs.Common.{sym, ◌∙◌, subst, inl, inr, arith, get_or-take, eq-eqb, ne_eqb, lt-ltb, le-ltb, leb-true}
 use Rattle.std.proofs.lemmas.Bool.{lt-leb}
 use Rattle.ring_laws.specs.Lists.{below, test}
 use Rattle.model.specs.declared.Counts.{Counts}
 use Rattle.model.specs.Counts.{limit}
-use Rattle.model.specs.declared.answer.Answer.TheVariants.{Done, Refused}
 use Rattle.axis_laws.specs.Notices.{Notice, InOrder}
-use Rattle.model_laws.specs.Tables.{Tables, Lists, Spells, model_of}
+use Rattle.model_laws.specs.Tables.{Tables, Lists, Spells}
 use Rattle.model_laws.specs.Now.{time_of, first_of, half}
-use Rattle.model_laws.specs.Result.{done, refused, Result, Follows}
 use Rattle.axis_laws.specs.NoticeOps.{behind_all}
-use Rattle.simulation_laws.specs.Plain.{with_notices, above, hold}
+use Rattle.simulation_laws.specs.Plain.{above, hold}
 use Rattle.axis_laws.specs.NoticeLaws.{rest_drop}
 use Rattle.axis_laws.specs.PutLaws.{last_ins, last_sorted}
 use Rattle.simulation_laws.specs.NoticesKept.{NoticesKept, kept_ins}
-use Rattle.simulation_laws.specs.Procedures.{Sqs, Outcome, next_on, lone, found, drop_on, ranked, held_at, held_to, held}
+use Rattle.simulation_laws.specs.Procedures.{Sqs, next_on, lone, found, drop_on, ranked, held_at, held_to, held}
 use Rattle.axis_laws.specs.ByDue.{by_due, by_behind}
 use Rattle.simulation_laws.specs.Calls.{sqs_of}
 use Rattle.simulation_laws.specs.Places.{SpellsTime, chain, off_head, once, is_process_lem, times_at, times_set, drop_spells}

@@ -1,10 +1,10 @@
 -- Passivate, cancel, finish and wait on tables that spell lists do what the plain calls do, with the same refusals.
-use Rattle.std.specs.Prelude.{ℕ, suc, ◌+◌, ◌-◌, ◌<◌, ◌≤◌, ◌≡◌, refl, ◌≢◌, ◌⊎◌, true, false, not, ltb, eqb, set, if◌then◌else◌}
+use Rattle.std.specs.Prelude.{ℕ, suc, ◌+◌, ◌-◌, ◌<◌, ◌≡◌, refl, true, false, not, eqb, set, if◌then◌else◌}
 use Rattle.std.proofs.Math.Path.{sym, subst}
-use Rattle.std.proofs.Common.{ap, ◌∙◌, inl, inr, ⊎_elim, arith, get_or-take}
+use Rattle.std.proofs.Common.{ap, ◌∙◌, inl, inr, ⊎_elim, arith}
 use mathlib.Core.List.{List, [], ◌∷◌}
 use Rattle.std.proofs.Math.ListN.{length}
-use borrow.Author.Tests.{eq-eqb, ne_eqb, leb-true, ltb-true}
+use borrow.Author.Tests.{eq-eqb, ne_eqb}
 use Rattle.ring_laws.specs.Lists.{clash, In, decide, test}
 use Rattle.ring_laws.specs.Tabulate.{listed, has, bit}
 use Rattle.model.specs.declared.Counts.{Counts}
@@ -12,19 +12,18 @@ use Rattle.model.specs.declared.Refusal.TheVariants.{NoNotice}
 use Rattle.model.specs.Counts.{main, is_head, is_process}
 use Rattle.axis_laws.specs.Notices.{Notice, whos}
 use Rattle.model_laws.specs.Tables.{Tables, Lists, Spells}
-use Rattle.model_laws.specs.Now.{first, current, half, first_of, next_place}
-use Rattle.model_laws.specs.Result.{done, refused}
+use Rattle.model_laws.specs.Now.{first, current, half, first_of}
+use Rattle.model_laws.specs.Result.{refused}
 use Rattle.simset_laws.specs.Calls.{or_none}
 use Rattle.simset_laws.specs.Sets.{precede_sets, exceeds}
 use Rattle.simset_laws.specs.Plain.{with_sets}
-use Rattle.simulation_laws.specs.Choice.{and_left, and_right}
 use Rattle.axis_laws.specs.NoticeOps.{dropped, has_notice, rest}
 use Rattle.simulation_laws.specs.Plain.{with_notices, with_terminated, leaving, passivate, wait, cancel, finish}
 use Rattle.axis_laws.specs.NoticeLaws.{drop_old, drop_none}
 use Rattle.simulation_laws.specs.NoticesKept.{NoticesKept, some_in, kept_drop, kept_rest}
-use Rattle.simulation_laws.specs.Procedures.{Sqs, made, turned_down, idle_at, lone, drop_on, passivated, cancelled, finished_marks}
+use Rattle.simulation_laws.specs.Procedures.{made, turned_down, lone, drop_on, passivated, cancelled, finished_marks}
 use Rattle.axis_laws.specs.ByDue.{listed_set}
-use Rattle.simulation_laws.specs.Places.{SpellsTime, once, is_process_lem, linked, idle_is, drop_spells}
+use Rattle.simulation_laws.specs.Places.{SpellsTime, once, is_process_lem, drop_spells}
 use Rattle.axis_laws.specs.Notices.{Process}
 use Rattle.simulation_laws.specs.Agree.{with_sqs, Agrees, AgreesMarked, respell}
 use Rattle.simulation_laws.proofs.Agree.{first_is, process_first, rest_spells, lone_yes}

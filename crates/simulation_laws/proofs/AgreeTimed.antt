@@ -1,5 +1,5 @@
 -- ACTIVATE on tables that spell lists does what activate and reactivate do to the lists, with the same refusals.
-use Rattle.std.specs.Prelude.{ℕ, suc, ◌+◌, ◌-◌, ◌≤◌, max, ◌≡◌, Bool, ◌&&◌, ◌||◌, leb, ltb, ℤ, pos, negsuc, ◌+ℤ◌, get_or, if◌then◌else◌}
+use Rattle.std.specs.Prelude.{ℕ, suc, ◌+◌, ◌-◌, ◌≤◌, ◌≡◌, Bool, ◌&&◌, ◌||◌, leb, ℤ, get_or, if◌then◌else◌}
 use Rattle.std.proofs.Math.Path.{refl, sym, ap}
 use Rattle.std.proofs.Common.{◌∙◌, subst, arith}
 use Rattle.std.proofs.Math.Bool.{true, false, not}
@@ -10,7 +10,7 @@ use Rattle.ring_laws.specs.Lists.{clash, In, decide, test}
 use Rattle.ring_laws.specs.Tabulate.{has, bit, listed_at}
 use Rattle.model.specs.declared.Counts.{Counts}
 use Rattle.model.specs.Counts.{limit, is_process}
-use Rattle.axis_laws.specs.Notices.{Notice, whos, due_of, From, InOrder}
+use Rattle.axis_laws.specs.Notices.{Notice, whos, due_of}
 use Rattle.model_laws.specs.Tables.{Tables, Lists, Spells}
 use Rattle.simset_laws.specs.Calls.{or_none}
 use Rattle.axis_laws.specs.Reading.{due_none}

@@ -1,27 +1,22 @@
 -- No call takes time back: after an accepted sequencing call the time is at least what it was.
-use Rattle.std.specs.Prelude.{ℕ, ◌+◌, ◌≤◌, ◌≡◌, Bool, true, false, not, ◌||◌, List, [], ◌∷◌, ◌≢◌, eqb, leb, ℤ}
+use Rattle.std.specs.Prelude.{ℕ, ◌+◌, ◌≤◌, ◌≡◌, Bool, not, List, ◌∷◌, eqb, leb, ℤ}
 use Rattle.std.proofs.Common.{subst, arith, leb-true}
-use Rattle.std.proofs.lemmas.Bool.{eqb-false}
 use Rattle.ring_laws.specs.Lists.{In, test}
 use Rattle.model.specs.declared.Counts.{Counts}
-use Rattle.model.specs.Counts.{limit, main, is_head, is_process}
+use Rattle.model.specs.Counts.{main, is_head, is_process}
 use Rattle.axis_laws.specs.Notices.{Notice, whos, From, InOrder}
 use Rattle.model_laws.specs.Tables.{Lists}
-use Rattle.model_laws.specs.Result.{need, done, refused, Result}
 use Rattle.model_laws.specs.Now.{time, current}
 use Rattle.simset_laws.specs.Calls.{or_none}
 use Rattle.simset_laws.specs.Sets.{precede_sets, exceeds}
-use Rattle.simset_laws.specs.Plain.{with_sets, unless_full}
-use Rattle.axis_laws.specs.NoticeOps.{behind_all, dropped, has_notice, rest}
-use Rattle.simulation_laws.specs.Plain.{with_notices, with_terminated, above, leaving, up_to, hold, passivate, wait, cancel, finish}
+use Rattle.simset_laws.specs.Plain.{with_sets}
+use Rattle.axis_laws.specs.NoticeOps.{dropped, rest}
+use Rattle.simulation_laws.specs.Plain.{with_terminated, above, hold, passivate, wait, cancel, finish}
 use Rattle.simulation_laws.specs.Plain.{due_for, placed, no_effect, timed_need, timed}
-use Rattle.axis_laws.specs.NoticeLaws.{drop_in, ins_from, from_due, drop_from}
-use Rattle.axis_laws.specs.PutLaws.{last_ins, front_ins}
-use Rattle.axis_laws.specs.BesideLaws.{before_ins, after_ins, before_none, after_none}
+use Rattle.axis_laws.specs.NoticeLaws.{drop_in, from_due, drop_from}
 use Rattle.simulation_laws.specs.StepPromise.{clause_in}
 use Rattle.simulation_laws.specs.Replace.{timed_drop_first}
 use Rattle.simulation_laws.proofs.Replace.{drop_first}
-use Rattle.simulation_laws.specs.AgreeEnds.{has_in, has_none}
 use Rattle.simulation_laws.specs.Forward.{Later, leaving_later, need_later, unless_later, upto_later, placed_from, behind_later}
 
 -- ---- the calls, on lists whose notices are in order

@@ -5,7 +5,7 @@ use Rattle.std.proofs.Math.Path.{refl, ap, subst}
 use Rattle.std.proofs.Common.{sym, ◌∙◌}
 use Rattle.std.proofs.Math.Bool.{true, false, not}
 use native.Mathlib.Omega.{arith}
-use borrow.Author.Tests.{eq-eqb, ne_eqb, le-leb, leb-false, lt-ltb}
+use borrow.Author.Tests.{ne_eqb, le-leb, leb-false, lt-ltb}
 use Rattle.ring_laws.specs.Lists.{decide, test, clash}
 use Rattle.model.specs.declared.Counts.{Counts}
 use Rattle.model.specs.declared.Refusal.TheVariants.{Operand, NoNotice}
@@ -33,7 +33,7 @@ use Rattle.simset_laws.specs.SizeLaws.{puts_ahead}
 use Rattle.simset_laws.proofs.SizeLaws.{not_exceeding}
 use Rattle.simset_laws.proofs.FullLaws.{full_says}
 use Rattle.simulation_laws.specs.Plain.{above, hold, passivate, wait, cancel, finish, timed_need, timed}
-use Rattle.simulation_laws.specs.Procedures.{Sqs, made, turned_down, lone, drop_on, passivated, activated}
+use Rattle.simulation_laws.specs.Procedures.{made, lone, drop_on, passivated, activated}
 use Rattle.simulation_laws.specs.Calls.{sqs_of, Marked, hold_step, passivate_step, cancel_step, timed_step, finish_step, wait_step, on_sqs}
 use Rattle.simulation_laws.specs.Calls.{on_marks, on_sets, wait_told}
 use Rattle.axis_laws.specs.Notices.{Process}

@@ -1,25 +1,19 @@
 -- Demand 2 by value: for every well-formed model each public sequencing call does what the plain call does to the lists, leaves what the
 -- published procedure leaves and tells what request 2.1 asks for; a refused one keeps every word of any tables; and each query tells what
 -- the lists say.
-use Rattle.std.specs.Prelude.{◌≡◌, refl, ℕ, List}
-use Rattle.std.proofs.Common.{ap, ◌∙◌}
+use Rattle.std.specs.Prelude.{◌≡◌, refl}
 use Rattle.std.proofs.Math.Bool.{true, false}
 use Rattle.model.specs.declared.Counts.{Counts}
-use Rattle.ring_laws.specs.Lists.{clash}
-use Rattle.model.specs.declared.Refusal.{Refusal}
-use Rattle.model.specs.declared.answer.Answer.{Answer}
-use Rattle.model.specs.declared.answer.Answer.TheVariants.{Done, Linkage, Number, Truth, Refused}
 use Rattle.model.specs.declared.call.SequencingCall.{SequencingCall}
 use Rattle.model.specs.declared.call.SequencingCall.TheVariants.{Hold, Passivate, Wait, Cancel, Activate, Reactivate, Finish}
 use Rattle.model.specs.declared.call.Query.{Query}
 use Rattle.model.specs.declared.call.Query.TheVariants.{First, Last, Suc, Pred, Empty, Cardinal, Current, Time, Idle, Terminated, Evtime}
 use Rattle.model.specs.declared.call.Query.TheVariants.{Nextev}
-use Rattle.model_laws.specs.Tables.{Tables, Lists, After, Sized, Spells}
-use Rattle.model_laws.specs.Called.{called, asked, if_accepted}
+use Rattle.model_laws.specs.Tables.{Tables, Lists, Sized, Spells}
+use Rattle.model_laws.specs.Called.{called, asked}
 use Rattle.model_laws.specs.Result.{Result, Tells, Follows, answering_follows, KeepsRefused, answering_kept, called_kept}
 use Rattle.simset_laws.proofs.Meaning.{called_is, first_means, last_means, suc_means, pred_means, empty_means, cardinal_means}
 use Rattle.simulation_laws.proofs.Kept.{hold_steps, passivate_steps, cancel_steps, timed_steps, finish_steps, wait_steps}
-use Rattle.simulation_laws.specs.Calls.{wait_told}
 use Rattle.simulation_laws.proofs.Meaning.{hold_means, passivate_means, wait_means, wait_says, cancel_means, finish_means, timed_means}
 use Rattle.simulation_laws.proofs.PublishedCalls.{hold_leaves, passivate_leaves, wait_leaves, cancel_leaves, finish_leaves}
 use Rattle.simulation_laws.proofs.PublishedCalls.{activate_leaves}

@@ -2,12 +2,12 @@
 -- and answer that the published procedure leaves, or refuses as stated: 4 for ERROR, 5 for a time above the limit, 3 for an operand of the
 -- wrong kind, which `need` puts first. The published procedures are those of Published.antt; set calls have theirs, statement by
 -- statement, in simset_laws/specs/Procedures.antt, and Meaning.antt beside it.
-use Rattle.std.specs.Prelude.{ℕ, ◌+◌, ◌≡◌, refl, ◌≢◌, Bool, not, eqb, leb, ℤ, pos, negsuc}
-use Rattle.std.proofs.Common.{sym, ◌∙◌, subst, inl, arith, eqb-true, lt-ltb, le-ltb}
+use Rattle.std.specs.Prelude.{ℕ, ◌+◌, ◌≡◌, refl, ◌≢◌, Bool, not, eqb, leb, ℤ}
+use Rattle.std.proofs.Common.{sym, ◌∙◌, subst, inl, arith, eqb-true}
 use Rattle.std.proofs.Math.Path.{ap}
 use mathlib.Core.List.{List, [], ◌∷◌}
 use Rattle.std.proofs.lemmas.Bool.{eqb-false}
-use Rattle.ring_laws.specs.Lists.{In, below, test}
+use Rattle.ring_laws.specs.Lists.{In, test}
 use Rattle.ring_laws.specs.Distinct.{Dist}
 use Rattle.model.specs.declared.Counts.{Counts}
 use Rattle.model.specs.Counts.{main, is_head, is_process}

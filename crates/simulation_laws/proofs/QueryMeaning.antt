@@ -1,19 +1,16 @@
 -- What the queries of SIMULATION tell, for every well-formed model: what the list of notices and the terminated processes say.
-use Rattle.std.specs.Prelude.{ℕ, ◌+◌, ◌-◌, ◌<◌, ◌≡◌, refl, ◌≢◌, Bool, true, false, not, List, [], ◌∷◌, leb, ltb, if◌then◌else◌}
-use Rattle.std.proofs.Common.{sym, ◌∙◌, subst, inl, inr, arith, eq-eqb, ne_eqb, leb-true, ltb-true}
+use Rattle.std.specs.Prelude.{ℕ, ◌-◌, ◌≡◌, not, if◌then◌else◌}
+use Rattle.std.proofs.Common.{◌∙◌, subst}
 use Rattle.std.proofs.Math.Path.{ap}
 use Rattle.std.proofs.Math.Dec.{eqb}
 use Rattle.std.proofs.Math.Seq.{get_or-take}
-use Rattle.ring_laws.specs.Lists.{In, decide, test}
-use Rattle.ring_laws.specs.Tabulate.{has, bit}
-use Rattle.ring_laws.specs.Chain.{Chain}
+use Rattle.ring_laws.specs.Lists.{In, test}
+use Rattle.ring_laws.specs.Tabulate.{has}
 use Rattle.ring_laws.specs.Stores.{sucs, pres}
 use Rattle.model.specs.declared.Counts.{Counts}
-use Rattle.model.specs.declared.Refusal.TheVariants.{Idle}
-use Rattle.model.specs.Counts.{is_process, linkage_at, both}
-use Rattle.model.specs.declared.answer.Answer.{Answer}
-use Rattle.model.specs.declared.answer.Answer.TheVariants.{Linkage, Number, Truth, Refused}
-use Rattle.axis_laws.specs.Notices.{Notice, whos, places, due_of}
+use Rattle.model.specs.Counts.{is_process, linkage_at}
+use Rattle.model.specs.declared.answer.Answer.TheVariants.{Linkage, Number, Truth}
+use Rattle.axis_laws.specs.Notices.{whos}
 use Rattle.model_laws.specs.Tables.{Tables, Lists, Sized, Spells}
 use Rattle.model_laws.specs.Called.{asked}
 use Rattle.simset_laws.specs.Calls.{told_if}

@@ -1,5 +1,5 @@
 -- RANK, as published, puts a notice behind all of equal or smaller time, or in front of all from its time on.
-use Rattle.std.specs.Prelude.{ℕ, suc, ◌≤◌, ◌<◌, ◌≡◌, refl, true, false, List, [], ◌∷◌}
+use Rattle.std.specs.Prelude.{ℕ, suc, ◌<◌, ◌≡◌, refl, true, false, List, [], ◌∷◌}
 use Rattle.std.proofs.Common.{sym, ap, ◌∙◌, arith, eq-eqb, ne_eqb, le-leb, lt-ltb, le-ltb}
 use Rattle.ring_laws.specs.Lists.{decide, below}
 use Rattle.axis_laws.specs.Notices.{Notice, From, InOrder}

@@ -1,22 +1,20 @@
 -- Activate and reactivate in the tables' order: X's earlier notice is dropped, then the new one is placed. `timed` has the papers' order,
 -- in which the new notice is placed while the earlier one still stands. Both leave the same lists.
-use Rattle.std.specs.Prelude.{ℕ, suc, ◌≤◌, ◌<◌, ◌≡◌, refl, ◌≢◌, Bool, true, false, ◌||◌, List, [], ◌∷◌, ℤ, if◌then◌else◌}
-use Rattle.std.proofs.Common.{sym, ap, ◌∙◌, inl, inr, arith}
+use Rattle.std.specs.Prelude.{ℕ, ◌≤◌, ◌≡◌, refl, ◌≢◌, Bool, true, false, ◌||◌, List, ℤ}
+use Rattle.std.proofs.Common.{sym, ap, arith}
 use Rattle.std.proofs.Math.Dec.{eqb}
-use borrow.Author.Tests.{eq-eqb, ne_eqb, eqb-false, le-leb, lt-leb, lt-ltb, le-ltb}
-use Rattle.ring_laws.specs.Lists.{In, decide, below, test}
+use borrow.Author.Tests.{eq-eqb, ne_eqb, eqb-false}
+use Rattle.ring_laws.specs.Lists.{In, below, test}
 use Rattle.model.specs.declared.Counts.{Counts}
 use Rattle.axis_laws.specs.Notices.{Notice, whos, InOrder}
 use Rattle.model_laws.specs.Tables.{Lists}
-use Rattle.model_laws.specs.Result.{need, done, Result}
-use Rattle.axis_laws.specs.NoticeOps.{behind_all, front_all, before, after, dropped, has_notice}
-use Rattle.axis_laws.specs.NoticeLaws.{from_less, drop_from, drop_in}
+use Rattle.axis_laws.specs.NoticeOps.{dropped, has_notice}
+use Rattle.axis_laws.specs.NoticeLaws.{drop_in}
 use Rattle.axis_laws.specs.BesideLaws.{before_none, after_none}
 use Rattle.simulation_laws.specs.PlacedLaws.{not_none, others_y}
 use Rattle.simulation_laws.specs.AgreeEnds.{has_none}
 use Rattle.simulation_laws.specs.StepPromise.{clause_in}
-use Rattle.axis_laws.specs.PutLaws.{behind_first, front_first}
-use Rattle.simulation_laws.specs.Plain.{up_to, leaving, due_for, placed, no_effect, timed_need, named, replaced, timed}
+use Rattle.simulation_laws.specs.Plain.{up_to, leaving, due_for, placed, no_effect, timed_need, replaced, timed}
 use Rattle.simulation_laws.specs.Replace.{timed_drop_first, named_dropped, replaced_behind, replaced_front, replaced_before, replaced_after}
 
 -- ---- the law

@@ -1,29 +1,24 @@
 -- What wait's code answers, from its tests and calls: refused by 3, 10 or 4 in this order, or done.
 use Rattle.std.specs.Prelude.{ℕ, ◌+◌, ◌≡◌, Bool, true, false}
-use Rattle.std.proofs.Math.Path.{refl, sym, ap}
-use Rattle.std.proofs.Common.{ap₂, ◌∙◌, subst, arith, lt-ltb, le-leb}
+use Rattle.std.proofs.Math.Path.{sym, ap}
+use Rattle.std.proofs.Common.{◌∙◌}
 use mathlib.Core.List.{List}
-use Rattle.ring_laws.specs.Lists.{test}
 use Rattle.ring_laws.specs.Table.{Sound, Made}
 use Rattle.model.specs.declared.Counts.{Counts}
 use Rattle.model.specs.declared.Refusal.TheVariants.{Operand, NoNotice, Full}
-use Rattle.model.specs.Counts.{total, is_head, is_link, linkage_at}
-use Rattle.model.specs.declared.answer.Answer.{Answer}
+use Rattle.model.specs.Counts.{total, is_head, linkage_at}
 use Rattle.model.specs.declared.answer.Answer.TheVariants.{Done, Refused}
 use Rattle.model_laws.specs.Now.{AxisSound, half, first_of}
 use Rattle.simset_laws.specs.Calls.{or_none}
 use Rattle.simset_laws.specs.Procedures.{preceded}
-use Rattle.simset_laws.specs.Full.{set_at, full_for, known_room, raised}
-use Rattle.simset_laws.specs.KnownRoom.{Roomy}
-use Rattle.simset_laws.proofs.KnownRoom.{has_room, room_raised, raised_covers}
-use Rattle.simset_laws.specs.Promise.{none_or, head_in, party_fine}
+use Rattle.simset_laws.specs.Full.{set_at, full_for}
+use Rattle.simset_laws.specs.Promise.{none_or, head_in}
 use Rattle.simset_laws.specs.BoundLaws.{Covers, Linking, covers_less}
 use Rattle.simset_laws.proofs.BoundLaws.{covers_preceded}
 use Rattle.simset_laws.specs.Entering.{Tested}
-use Rattle.simulation_laws.specs.Procedures.{Sqs, made, lone, drop_on}
-use Rattle.simulation_laws.specs.Calls.{Waited, wait_step}
+use Rattle.simulation_laws.specs.Procedures.{drop_on}
+use Rattle.simulation_laws.specs.Calls.{wait_step}
 use Rattle.simulation_laws.specs.Promise.{sqs, Left, Place, Lone, Judged}
-use Rattle.simulation_laws.specs.StepPromise.{WaitMade}
 use Rattle.simulation_laws.specs.WaitPromise.{WaitEntered, current_link, made_3, made_10, made_4, made_0}
 
 -- with the bounds

@@ -1,27 +1,16 @@
 -- Hold on tables that spell lists does what the plain call does to the lists, with the same refusals; and what agreeing means.
-use Rattle.std.specs.Prelude.{ℕ, suc, ◌+◌, ◌-◌, ◌≤◌, ◌≡◌, true, false, List, [], ◌∷◌, leb, ℤ, get_or, set}
-use Rattle.std.proofs.Math.Path.{refl}
-use Rattle.std.proofs.Common.{sym, ◌∙◌, subst, ap, inl, inr, arith, get_or-take, eq-eqb, ne_eqb, lt-ltb, le-ltb, leb-true}
-use Rattle.std.proofs.lemmas.Bool.{lt-leb}
-use Rattle.ring_laws.specs.Lists.{below, test}
+use Rattle.std.specs.Prelude.{ℕ, ◌≡◌, List}
+use Rattle.std.proofs.Common.{ap}
 use Rattle.model.specs.declared.Counts.{Counts}
-use Rattle.model.specs.Counts.{limit}
 use Rattle.model.specs.declared.answer.Answer.TheVariants.{Done, Refused}
-use Rattle.axis_laws.specs.Notices.{Notice, InOrder}
+use Rattle.axis_laws.specs.Notices.{Notice}
 use Rattle.model_laws.specs.Tables.{Tables, Lists, Spells, model_of}
-use Rattle.model_laws.specs.Now.{time_of, first_of, half}
 use Rattle.model_laws.specs.Result.{done, refused, Result, Follows}
-use Rattle.axis_laws.specs.NoticeOps.{behind_all}
-use Rattle.simulation_laws.specs.Plain.{with_notices, above, hold}
-use Rattle.axis_laws.specs.NoticeLaws.{rest_drop}
-use Rattle.axis_laws.specs.PutLaws.{last_ins, last_sorted}
-use Rattle.simulation_laws.specs.NoticesKept.{NoticesKept, kept_ins}
-use Rattle.simulation_laws.specs.Procedures.{Sqs, Outcome, next_on, lone, found, drop_on, ranked, held_at, held_to, held}
-use Rattle.axis_laws.specs.ByDue.{by_due, by_behind}
+use Rattle.simulation_laws.specs.Plain.{with_notices}
+use Rattle.simulation_laws.specs.NoticesKept.{NoticesKept}
+use Rattle.simulation_laws.specs.Procedures.{Sqs, Outcome}
 use Rattle.simulation_laws.specs.Calls.{sqs_of}
-use Rattle.simulation_laws.specs.Places.{SpellsTime, chain, off_head, once, is_process_lem, times_at, times_set, drop_spells}
-use Rattle.axis_laws.specs.Notices.{Process}
-use Rattle.simulation_laws.specs.Spots.{put_spells, found_spot}
+use Rattle.simulation_laws.specs.Places.{SpellsTime}
 
 -- ---- what a call leaves, and what the machine answers
 

@@ -1,33 +1,23 @@
 -- Passivate, cancel, finish and wait on tables that spell lists do what the plain calls do, with the same refusals.
-use Rattle.std.specs.Prelude.{ℕ, suc, ◌+◌, ◌-◌, ◌<◌, ◌≤◌, ◌≡◌, refl, ◌≢◌, ◌⊎◌, true, false, not, ltb, eqb, set, if◌then◌else◌}
-use Rattle.std.proofs.Math.Path.{sym, subst}
-use Rattle.std.proofs.Common.{ap, ◌∙◌, inl, inr, ⊎_elim, arith, get_or-take}
+use Rattle.std.specs.Prelude.{ℕ, ◌+◌, ◌-◌, ◌<◌, ◌≤◌, ◌≡◌, refl, ◌≢◌, true, false, not, ltb}
+use Rattle.std.proofs.Math.Path.{sym}
+use Rattle.std.proofs.Common.{◌∙◌, inl, inr, ⊎_elim, arith, get_or-take}
 use mathlib.Core.List.{List, [], ◌∷◌}
-use Rattle.std.proofs.Math.ListN.{length}
 use borrow.Author.Tests.{eq-eqb, ne_eqb, leb-true, ltb-true}
 use Rattle.ring_laws.specs.Lists.{clash, In, decide, test}
-use Rattle.ring_laws.specs.Tabulate.{listed, has, bit}
 use Rattle.model.specs.declared.Counts.{Counts}
-use Rattle.model.specs.declared.Refusal.TheVariants.{NoNotice}
-use Rattle.model.specs.Counts.{main, is_head, is_process}
+use Rattle.model.specs.Counts.{main, is_process}
 use Rattle.axis_laws.specs.Notices.{Notice, whos}
-use Rattle.model_laws.specs.Tables.{Tables, Lists, Spells}
-use Rattle.model_laws.specs.Now.{first, current, half, first_of, next_place}
-use Rattle.model_laws.specs.Result.{done, refused}
+use Rattle.model_laws.specs.Tables.{Lists}
+use Rattle.model_laws.specs.Now.{half, next_place}
+use Rattle.model_laws.specs.Result.{done}
 use Rattle.simset_laws.specs.Calls.{or_none}
-use Rattle.simset_laws.specs.Sets.{precede_sets, exceeds}
-use Rattle.simset_laws.specs.Plain.{with_sets}
 use Rattle.simulation_laws.specs.Choice.{and_left, and_right}
-use Rattle.axis_laws.specs.NoticeOps.{dropped, has_notice, rest}
-use Rattle.simulation_laws.specs.Plain.{with_notices, with_terminated, leaving, passivate, wait, cancel, finish}
-use Rattle.axis_laws.specs.NoticeLaws.{drop_old, drop_none}
-use Rattle.simulation_laws.specs.NoticesKept.{NoticesKept, some_in, kept_drop, kept_rest}
-use Rattle.simulation_laws.specs.Procedures.{Sqs, made, turned_down, idle_at, lone, drop_on, passivated, cancelled, finished_marks}
-use Rattle.axis_laws.specs.ByDue.{listed_set}
-use Rattle.simulation_laws.specs.Places.{SpellsTime, once, is_process_lem, linked, idle_is, drop_spells}
+use Rattle.axis_laws.specs.NoticeOps.{has_notice}
+use Rattle.simulation_laws.specs.Plain.{with_notices, leaving}
+use Rattle.simulation_laws.specs.Procedures.{Sqs, idle_at}
+use Rattle.simulation_laws.specs.Places.{SpellsTime, is_process_lem, linked, idle_is}
 use Rattle.axis_laws.specs.Notices.{Process}
-use Rattle.simulation_laws.specs.Agree.{with_sqs, Agrees, AgreesMarked, respell}
-use Rattle.simulation_laws.specs.Calls.{sqs_of}
 
 -- x may be terminated
 abbrev pub Ended : Counts → ℕ → List Notice → Type 0

@@ -1,25 +1,20 @@
 -- No call takes time back: after an accepted sequencing call the time is at least what it was.
-use Rattle.std.specs.Prelude.{ℕ, ◌+◌, ◌≤◌, ◌≡◌, Bool, true, false, not, ◌||◌, List, [], ◌∷◌, ◌≢◌, eqb, leb, ℤ}
-use Rattle.std.proofs.Common.{subst, arith, leb-true}
+use Rattle.std.specs.Prelude.{ℕ, ◌≤◌, Bool, true, false, ◌||◌, List, [], ◌∷◌, ◌≢◌, eqb, leb}
+use Rattle.std.proofs.Common.{arith}
 use Rattle.std.proofs.lemmas.Bool.{eqb-false}
 use Rattle.ring_laws.specs.Lists.{In, test}
-use Rattle.model.specs.declared.Counts.{Counts}
-use Rattle.model.specs.Counts.{limit, main, is_head, is_process}
-use Rattle.axis_laws.specs.Notices.{Notice, whos, From, InOrder}
+use Rattle.model.specs.Counts.{limit}
+use Rattle.axis_laws.specs.Notices.{Notice, whos, From}
 use Rattle.model_laws.specs.Tables.{Lists}
 use Rattle.model_laws.specs.Result.{need, done, refused, Result}
-use Rattle.model_laws.specs.Now.{time, current}
-use Rattle.simset_laws.specs.Calls.{or_none}
-use Rattle.simset_laws.specs.Sets.{precede_sets, exceeds}
-use Rattle.simset_laws.specs.Plain.{with_sets, unless_full}
-use Rattle.axis_laws.specs.NoticeOps.{behind_all, dropped, has_notice, rest}
-use Rattle.simulation_laws.specs.Plain.{with_notices, with_terminated, above, leaving, up_to, hold, passivate, wait, cancel, finish}
-use Rattle.simulation_laws.specs.Plain.{due_for, placed, no_effect, timed_need, timed}
-use Rattle.axis_laws.specs.NoticeLaws.{drop_in, ins_from, from_due, drop_from}
+use Rattle.model_laws.specs.Now.{time}
+use Rattle.simset_laws.specs.Plain.{unless_full}
+use Rattle.axis_laws.specs.NoticeOps.{behind_all, has_notice}
+use Rattle.simulation_laws.specs.Plain.{with_notices, leaving, up_to}
+use Rattle.simulation_laws.specs.Plain.{placed}
+use Rattle.axis_laws.specs.NoticeLaws.{ins_from}
 use Rattle.axis_laws.specs.PutLaws.{last_ins, front_ins}
 use Rattle.axis_laws.specs.BesideLaws.{before_ins, after_ins, before_none, after_none}
-use Rattle.simulation_laws.specs.StepPromise.{clause_in}
-use Rattle.simulation_laws.specs.Replace.{timed_drop_first}
 use Rattle.simulation_laws.specs.AgreeEnds.{has_in, has_none}
 
 -- refused, or done at a time that is at least t

@@ -1,25 +1,15 @@
 -- A refused sequencing call changes no word, whatever the tables.
-use Prim.Native.Nat.{ℕ, ◌+◌}
-use Rattle.std.specs.Prelude.{◌≡◌, refl, Bool, ◌&&◌, List, eqb, ℤ, if◌then◌else◌}
+use Prim.Native.Nat.{ℕ}
+use Rattle.std.specs.Prelude.{◌≡◌, refl, Bool, List, if◌then◌else◌}
 use Rattle.std.proofs.Common.{ap}
 use Rattle.std.proofs.Math.Bool.{true, false}
-use Rattle.std.proofs.Math.Dec.{leb}
-use Rattle.ring_laws.specs.Lists.{test, clash}
-use Rattle.model.specs.declared.Counts.{Counts}
+use Rattle.ring_laws.specs.Lists.{clash}
 use Rattle.model.specs.declared.Refusal.{Refusal}
-use Rattle.model.specs.declared.Refusal.TheVariants.{Operand, NoNotice, TimeLimit}
-use Rattle.model.specs.Counts.{limit, is_head, is_process, place_of, linkage_at}
 use Rattle.model.specs.declared.answer.Answer.TheVariants.{Refused}
-use Rattle.model_laws.specs.Now.{half, first_of, time_of}
 use Rattle.model_laws.specs.Result.{KeepsRefused}
 use Rattle.model_laws.specs.Tables.{model_of}
-use Rattle.simset_laws.specs.Calls.{or_none}
-use Rattle.simset_laws.specs.Full.{full_for}
-use Rattle.simulation_laws.specs.Plain.{above, timed_need}
-use Rattle.simulation_laws.specs.Procedures.{Sqs, Outcome, made, turned_down, idle_at, lone, drop_on, held_to, held, passivated}
-use Rattle.simulation_laws.specs.Procedures.{cancelled, vain, due_at, put_by_clause, activated, finished_marks}
-use Rattle.simulation_laws.specs.Calls.{y_place, sqs_of, hold_step, passivate_step, cancel_step, timed_step, finish_step, wait_step, on_sqs}
-use Rattle.simulation_laws.specs.Calls.{on_marks, on_sets}
+use Rattle.simulation_laws.specs.Procedures.{Sqs, Outcome, made, turned_down}
+use Rattle.simulation_laws.specs.Calls.{sqs_of, on_sqs}
 
 -- ---- on the sequencing set
 

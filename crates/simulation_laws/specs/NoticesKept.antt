@@ -1,5 +1,5 @@
 -- What notices must keep for a model to stay well formed: at least one, in order, within the limit, and none of a terminated process.
-use Rattle.std.specs.Prelude.{ℕ, ◌<◌, ◌≤◌, ◌⊎◌, List, [], ◌∷◌, length}
+use Rattle.std.specs.Prelude.{ℕ, ◌<◌, ◌≤◌, List, [], ◌∷◌, length}
 use Rattle.std.proofs.Common.{subst, inr, ⊎_elim, arith, eq-eqb, ne_eqb}
 use Rattle.ring_laws.specs.Lists.{In, decide}
 use Rattle.model.specs.Counts.{limit}

@@ -1,5 +1,5 @@
 -- Tables that spell a list of notices, and what dropping a notice and linking one behind a place do to that list.
-use Rattle.std.specs.Prelude.{ℕ, suc, ◌+◌, ◌-◌, ◌<◌, ◌≤◌, ◌≡◌, refl, ◌≢◌, ◌⊎◌, List, ◌∷◌, get_or, set}
+use Rattle.std.specs.Prelude.{ℕ, suc, ◌+◌, ◌-◌, ◌<◌, ◌≡◌, refl, ◌≢◌, List, ◌∷◌, get_or, set}
 use Rattle.std.proofs.Common.{sym, ap, ◌∙◌, inr, ⊎_elim, arith, get_or-take, eq-eqb, ne_eqb}
 use Rattle.ring_laws.specs.Lists.{In}
 use Rattle.ring_laws.specs.Chain.{Chain}

@@ -2,7 +2,7 @@
 -- the published text (Published.antt) where a table asks for it: X has one place, so its earlier notice goes before the new one is placed;
 -- T is clamped beforehand; RANK's place is looked for from both ends. PublishedCalls.antt proves that the published text leaves the same.
 -- m is P + 2, the axis's own head (SQS) stands at m - 1, and a process's notice at its place. d is T where that is above 0, else 0.
-use Rattle.std.specs.Prelude.{ℕ, zero, suc, ◌+◌, ◌-◌, max, Bool, not, ◌&&◌, ◌||◌, List, eqb, leb, ltb, get_or, set, if◌then◌else◌}
+use Rattle.std.specs.Prelude.{ℕ, suc, ◌+◌, ◌-◌, max, Bool, not, ◌&&◌, ◌||◌, List, eqb, leb, ltb, get_or, set, if◌then◌else◌}
 use Rattle.ring_laws.specs.Table.{unlinked, linked_behind}
 use Rattle.model.specs.declared.Refusal.{Refusal}
 use Rattle.model.specs.declared.Refusal.TheVariants.{NoNotice, TimeLimit}

@@ -1,9 +1,8 @@
 -- Demand 2 by value: for every well-formed model each public sequencing call does what the plain call does to the lists, leaves what the
 -- published procedure leaves and tells what request 2.1 asks for; a refused one keeps every word of any tables; and each query tells what
 -- the lists say.
-use Rattle.std.specs.Prelude.{◌≡◌, refl, ℕ, List}
+use Rattle.std.specs.Prelude.{◌≡◌, ℕ, List}
 use Rattle.std.proofs.Common.{ap, ◌∙◌}
-use Rattle.std.proofs.Math.Bool.{true, false}
 use Rattle.model.specs.declared.Counts.{Counts}
 use Rattle.ring_laws.specs.Lists.{clash}
 use Rattle.model.specs.declared.Refusal.{Refusal}
@@ -12,15 +11,11 @@ use Rattle.model.specs.declared.answer.Answer.TheVariants.{Done, Linkage, Number
 use Rattle.model.specs.declared.call.SequencingCall.{SequencingCall}
 use Rattle.model.specs.declared.call.SequencingCall.TheVariants.{Hold, Passivate, Wait, Cancel, Activate, Reactivate, Finish}
 use Rattle.model.specs.declared.call.Query.{Query}
-use Rattle.model.specs.declared.call.Query.TheVariants.{First, Last, Suc, Pred, Empty, Cardinal, Current, Time, Idle, Terminated, Evtime}
-use Rattle.model.specs.declared.call.Query.TheVariants.{Nextev}
-use Rattle.model_laws.specs.Tables.{Tables, Lists, After, Sized, Spells}
-use Rattle.model_laws.specs.Called.{called, asked, if_accepted}
-use Rattle.model_laws.specs.Result.{Result, Tells, Follows, answering_follows, KeepsRefused, answering_kept, called_kept}
-use Rattle.simset_laws.proofs.Meaning.{called_is, first_means, last_means, suc_means, pred_means, empty_means, cardinal_means}
+use Rattle.model_laws.specs.Tables.{Tables, After}
+use Rattle.model_laws.specs.Called.{if_accepted}
 use Rattle.simulation_laws.specs.Calls.{wait_told}
-use Rattle.simulation_laws.specs.PublicCalls.{sequencing_after, sequencing_told, sequencing_answered, sequencing_tells}
-use Rattle.simulation_laws.specs.PublicCalls.{sequencing_call, published_call, query_told, query_on}
+use Rattle.simulation_laws.specs.PublicCalls.{sequencing_after, sequencing_told, sequencing_answered}
+use Rattle.simulation_laws.specs.PublicCalls.{query_told}
 
 -- no refusal is told, so that a refused answer is the step's own
 pub own_or : (a v : Answer) (r : Refusal) → (v ≡ Refused r → ⊥) → if_accepted a v ≡ Refused r → a ≡ Refused r

@@ -1,34 +1,20 @@
 -- What the queries of SIMULATION tell, for every well-formed model: what the list of notices and the terminated processes say.
-use Rattle.std.specs.Prelude.{ℕ, ◌+◌, ◌-◌, ◌<◌, ◌≡◌, refl, ◌≢◌, Bool, true, false, not, List, [], ◌∷◌, leb, ltb, if◌then◌else◌}
-use Rattle.std.proofs.Common.{sym, ◌∙◌, subst, inl, inr, arith, eq-eqb, ne_eqb, leb-true, ltb-true}
+use Rattle.std.specs.Prelude.{ℕ, ◌+◌, ◌-◌, ◌<◌, ◌≡◌, refl, ◌≢◌, Bool, true, false, List, [], ◌∷◌, leb, ltb, if◌then◌else◌}
+use Rattle.std.proofs.Common.{sym, ◌∙◌, inl, inr, arith, eq-eqb, ne_eqb, leb-true, ltb-true}
 use Rattle.std.proofs.Math.Path.{ap}
 use Rattle.std.proofs.Math.Dec.{eqb}
-use Rattle.std.proofs.Math.Seq.{get_or-take}
 use Rattle.ring_laws.specs.Lists.{In, decide, test}
-use Rattle.ring_laws.specs.Tabulate.{has, bit}
+use Rattle.ring_laws.specs.Tabulate.{bit}
 use Rattle.ring_laws.specs.Chain.{Chain}
-use Rattle.ring_laws.specs.Stores.{sucs, pres}
 use Rattle.model.specs.declared.Counts.{Counts}
 use Rattle.model.specs.declared.Refusal.TheVariants.{Idle}
 use Rattle.model.specs.Counts.{is_process, linkage_at, both}
 use Rattle.model.specs.declared.answer.Answer.{Answer}
-use Rattle.model.specs.declared.answer.Answer.TheVariants.{Linkage, Number, Truth, Refused}
+use Rattle.model.specs.declared.answer.Answer.TheVariants.{Linkage, Number, Refused}
 use Rattle.axis_laws.specs.Notices.{Notice, whos, places, due_of}
-use Rattle.model_laws.specs.Tables.{Tables, Lists, Sized, Spells}
-use Rattle.model_laws.specs.Called.{asked}
 use Rattle.simset_laws.specs.Calls.{told_if}
-use Rattle.simset_laws.proofs.Meaning.{asked_is}
 use Rattle.axis_laws.specs.NoticeOps.{has_notice, next_after}
-use Rattle.simulation_laws.specs.Procedures.{Sqs, idle_at}
-use Rattle.simulation_laws.specs.Calls.{sqs_of, current_told, time_told, idle_told, terminated_told, evtime_told, nextev_told}
-use Rattle.axis_laws.specs.Reading.{who_place}
-use Rattle.model_laws.specs.NowLaws.{Split, splits}
-use Rattle.model_laws.proofs.NowLaws.{current_now, time_now}
-use Rattle.model_laws.specs.Now.{time, current, half, next_place}
-use Rattle.simulation_laws.specs.Places.{SpellsTime, chain, off_head, is_process_lem, times_at, member}
 use Rattle.axis_laws.specs.Notices.{Process}
-use Rattle.simulation_laws.specs.Agree.{its_time}
-use Rattle.simulation_laws.specs.AgreeEnds.{Party, has_in, idle_has}
 
 -- what evtime tells
 abbrev pub evtime_of : ℕ → List Notice → Answer

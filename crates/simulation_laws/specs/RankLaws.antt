@@ -1,12 +1,8 @@
 -- RANK, as published, puts a notice behind all of equal or smaller time, or in front of all from its time on.
-use Rattle.std.specs.Prelude.{ℕ, suc, ◌≤◌, ◌<◌, ◌≡◌, refl, true, false, List, [], ◌∷◌}
-use Rattle.std.proofs.Common.{sym, ap, ◌∙◌, arith, eq-eqb, ne_eqb, le-leb, lt-ltb, le-ltb}
-use Rattle.ring_laws.specs.Lists.{decide, below}
-use Rattle.axis_laws.specs.Notices.{Notice, From, InOrder}
-use Rattle.axis_laws.specs.NoticeOps.{behind_all, front_all}
-use Rattle.axis_laws.specs.NoticeLaws.{from_less}
-use Rattle.axis_laws.specs.PutLaws.{behind_first, front_first}
-use Rattle.simulation_laws.specs.Published.{back_onto, follow_p, while_equal, while_later, RANK}
+use Rattle.std.specs.Prelude.{ℕ, ◌≤◌, ◌≡◌, refl, List, [], ◌∷◌}
+use Rattle.std.proofs.Common.{arith}
+use Rattle.axis_laws.specs.Notices.{Notice, InOrder}
+use Rattle.simulation_laws.specs.Published.{back_onto}
 
 -- ---- the notices in front of P
 

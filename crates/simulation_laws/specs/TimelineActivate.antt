@@ -1,42 +1,23 @@
 -- ACTIVATE on tables that spell a list of notices does what activate and reactivate do to it, with the same refusals.
-use Rattle.std.specs.Prelude.{ℕ, suc, ◌+◌, ◌-◌, ◌<◌, ◌≤◌, max, ◌≡◌, Bool, ◌&&◌, ◌||◌, leb, ℤ, get_or, if◌then◌else◌}
-use Rattle.std.proofs.Math.Path.{refl, sym, ap}
-use Rattle.std.proofs.Common.{◌∙◌, subst, arith}
+use Rattle.std.specs.Prelude.{ℕ, ◌-◌, ◌≤◌, ◌≡◌, Bool, ◌&&◌, ◌||◌}
+use Rattle.std.proofs.Math.Path.{refl}
+use Rattle.std.proofs.Common.{arith}
 use Rattle.std.proofs.Math.Bool.{true, false, not}
-use mathlib.Core.List.{List, [], ◌∷◌}
+use mathlib.Core.List.{List}
 use Rattle.std.proofs.Math.Dec.{eqb}
-use borrow.Author.Tests.{eq-eqb, ne_eqb, eqb-true, eqb-false, le-leb, leb-true}
-use Rattle.ring_laws.specs.Lists.{In, decide, test}
-use Rattle.ring_laws.specs.Tabulate.{has, bit, listed_at}
+use borrow.Author.Tests.{eqb-true}
+use Rattle.ring_laws.specs.Lists.{In, test}
+use Rattle.ring_laws.specs.Tabulate.{bit}
 use Rattle.model.specs.declared.Counts.{Counts}
-use Rattle.model.specs.Counts.{limit, is_process}
 use Rattle.axis_laws.specs.Notices.{Notice, whos, due_of}
-use Rattle.model_laws.specs.Tables.{Lists}
-use Rattle.axis_laws.specs.Reading.{due_none}
-use Rattle.simset_laws.specs.Calls.{or_none}
-use Rattle.simulation_laws.specs.Choice.{and_left, and_right}
-use Rattle.ring_laws.specs.Lists.{clash}
-use Rattle.axis_laws.specs.NoticeOps.{dropped, has_notice}
-use Rattle.axis_laws.specs.NoticeLaws.{Ins, ins_new, drop_in, drop_gone, drop_old, drop_sorted, drop_due}
+use Rattle.axis_laws.specs.NoticeLaws.{Ins}
 use Rattle.axis_laws.specs.PutLaws.{last_ins, front_ins}
-use Rattle.axis_laws.specs.BesideLaws.{before_ins, after_ins, before_none, after_none}
-use Rattle.simulation_laws.specs.NoticesKept.{NoticesKept, kept_ins, dropped_within, dropped_idle}
-use Rattle.simulation_laws.specs.PlacedLaws.{placed_sorted, due_beside, not_ended, others_y}
+use Rattle.axis_laws.specs.BesideLaws.{before_ins, after_ins}
 use Rattle.axis_laws.specs.Notices.{Process}
-use Rattle.simulation_laws.specs.Procedures.{vain, due_at}
-use Rattle.simulation_laws.specs.Replace.{timed_drop_first}
-use Rattle.simulation_laws.specs.Plain.{with_notices, above, leaving, due_for, placed, no_effect, timed_need, timed}
-use Rattle.model_laws.specs.Result.{done}
-use Rattle.model_laws.specs.Now.{time}
-use Rattle.simulation_laws.specs.AgreeEnds.{Party, party, has_in, has_none}
-use Rattle.simulation_laws.specs.AgreeTimed.{delay_is}
-use Rattle.axis_laws.specs.Groups.{spelled_out, members_are}
-use Rattle.axis_laws.specs.Timeline.{Timeline, time_of, idle_at}
-use Rattle.axis_laws.specs.Procedures.{drop_on}
-use Rattle.axis_laws.specs.NoticesSpelled.{half, SpellsNotices, is_process_lem, times_at, notices_dropped, notices_behind, notices_front, notices_before, notices_after}
-use Rattle.axis_laws.specs.TimelineReading.{time_is}
-use Rattle.simulation_laws.specs.TimelineSteps.{made, cancelled, placed_on, scheduled, activated}
-use Rattle.simulation_laws.specs.TimelineAgrees.{SpellsModel, Agrees, idle_has, respell, st, drop_agrees}
+use Rattle.simulation_laws.specs.Plain.{placed}
+use Rattle.axis_laws.specs.Timeline.{Timeline}
+use Rattle.axis_laws.specs.NoticesSpelled.{half, SpellsNotices, notices_behind, notices_front, notices_before, notices_after}
+use Rattle.simulation_laws.specs.TimelineSteps.{placed_on}
 
 pub bit_not : (b : Bool) → not (eqb (bit b) 0) ≡ b
 bit_not true = refl

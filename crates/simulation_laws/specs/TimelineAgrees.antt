@@ -1,45 +1,43 @@
 -- The calls on tables that spell a list of notices do what the plain calls do to it, "refusals among them".
-use Rattle.std.specs.Prelude.{ℕ, suc, ◌+◌, ◌-◌, ◌<◌, ◌≤◌, ◌≢◌, ◌⊎◌, Bool, true, false, not, ◌&&◌, ◌||◌, leb, ℤ, get_or, set, if◌then◌else◌}
+use Rattle.std.specs.Prelude.{ℕ, suc, ◌+◌, ◌-◌, ◌<◌, ◌≤◌, true, not, leb, ℤ, get_or, if◌then◌else◌}
 use Rattle.std.proofs.Math.Path.{◌≡◌, refl, sym, subst}
 use Rattle.std.proofs.Common.{ap, ◌∙◌, inl, inr, ⊎_elim, length-set, get_or-set_same, get_or-set_other}
 use mathlib.Core.List.{List, [], ◌∷◌, ◌++◌}
 use native.Mathlib.Omega.{arith}
 use Rattle.std.proofs.Math.Dec.{ltb, eqb}
 use Rattle.std.proofs.Math.ListN.{length}
-use borrow.Author.Tests.{eq-eqb, ne_eqb, eqb-true, lt-leb, lt-ltb, le-ltb, le-leb, leb-true}
+use borrow.Author.Tests.{eq-eqb, ne_eqb, eqb-true, lt-leb, lt-ltb, le-ltb, leb-true}
 use Rattle.ring_laws.specs.Lists.{In, decide, below, test}
 use Rattle.ring_laws.specs.Distinct.{Dist}
 use Rattle.ring_laws.specs.Tabulate.{listed, has, bit}
-use Rattle.ring_laws.specs.Stores.{sucs, pres, suc_at}
+use Rattle.ring_laws.specs.Stores.{sucs, suc_at}
 use Rattle.model.specs.declared.Counts.{Counts}
 use Rattle.model.specs.declared.Refusal.TheVariants.{NoNotice}
 use Rattle.model.specs.Counts.{limit}
 use Rattle.model.specs.declared.answer.Answer.TheVariants.{Done, Refused}
-use Rattle.axis_laws.specs.Notices.{Notice, whos, due_of, InOrder}
+use Rattle.axis_laws.specs.Notices.{Notice, whos, due_of}
 use Rattle.model_laws.specs.Tables.{Lists}
-use Rattle.axis_laws.specs.Reading.{dist_whos}
 use Rattle.axis_laws.specs.NoticeOps.{behind_all, dropped, has_notice, rest}
-use Rattle.axis_laws.specs.NoticeLaws.{Ins, ins_in, rest_drop, drop_none, drop_old}
+use Rattle.axis_laws.specs.NoticeLaws.{ins_in, rest_drop, drop_none, drop_old}
 use Rattle.axis_laws.specs.PutLaws.{last_ins, last_sorted}
 use Rattle.simulation_laws.specs.NoticesKept.{NoticesKept, some_in, kept_ins, kept_drop, kept_rest}
 use Rattle.axis_laws.specs.Notices.{Process}
 use Rattle.simulation_laws.specs.AgreeEnds.{Party, party, has_in, has_none}
 use Rattle.simulation_laws.specs.Plain.{with_notices, above, leaving, hold, passivate, cancel}
 use Rattle.model_laws.specs.Result.{Result, refused, done}
-use Rattle.model_laws.specs.Now.{time}
 use Rattle.simset_laws.specs.Calls.{or_none}
 use Rattle.model.specs.Counts.{is_process}
-use Rattle.axis_laws.specs.Groups.{Group, notice, group, together, spelled_out, members, leaders, Above, Rising, members_are}
+use Rattle.axis_laws.specs.Groups.{Group, notice, group, spelled_out, members, Above, Rising, members_are}
 use Rattle.axis_laws.specs.Leads.{above_less}
 use Rattle.axis_laws.specs.Search.{due_own, due_later}
 use Rattle.axis_laws.specs.Shifted.{moved_to, shifted, shifted_moves}
 use Rattle.axis_laws.specs.Turned.{turned, next_is, turned_groups, turned_out}
-use Rattle.axis_laws.specs.Lowered.{lowered, Over, low_behind}
-use Rattle.axis_laws.specs.Timeline.{Timeline, SpellsGroups, first_of, time_of, idle_at, lone}
+use Rattle.axis_laws.specs.Lowered.{lowered, low_behind}
+use Rattle.axis_laws.specs.Timeline.{Timeline, SpellsGroups, first_of, idle_at, lone}
 use Rattle.axis_laws.specs.Procedures.{drop_on, behind_on}
-use Rattle.axis_laws.specs.Peers.{peer_busy, peer_member}
+use Rattle.axis_laws.specs.Peers.{peer_busy}
 use Rattle.axis_laws.specs.Ticks.{in_m}
-use Rattle.axis_laws.specs.NoticesSpelled.{half, SpellsNotices, in_order, place_in, in_place, is_process_lem, times_at, notices_dropped, notices_behind}
+use Rattle.axis_laws.specs.NoticesSpelled.{half, SpellsNotices, place_in, in_place, is_process_lem, notices_dropped, notices_behind}
 use Rattle.axis_laws.specs.TimelineReading.{current_is, time_is, lone_one, lone_more, first_leads, first_alone, first_more, first_last, first_not_last}
 use Rattle.simulation_laws.specs.TimelineSteps.{Outcome, made, turned_down, settled, held_at, held, passivated, cancelled}
 

@@ -1,5 +1,5 @@
 -- Hold, passivate, cancel and ACTIVATE on the tables of the axis; d is T where that is above 0, else 0. As in the one-ring form, with the same refusals.
-use Rattle.std.specs.Prelude.{ℕ, ◌+◌, ◌-◌, Bool, true, false, not, ◌&&◌, ◌||◌, List, eqb, leb, ltb, get_or, set, if◌then◌else◌}
+use Rattle.std.specs.Prelude.{ℕ, ◌+◌, ◌-◌, Bool, ◌&&◌, ◌||◌, List, eqb, leb, ltb, get_or, set, if◌then◌else◌}
 use Rattle.model.specs.declared.Refusal.{Refusal}
 use Rattle.model.specs.declared.Refusal.TheVariants.{NoNotice, TimeLimit}
 use Rattle.model.specs.Counts.{limit}

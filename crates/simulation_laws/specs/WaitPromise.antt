@@ -13,13 +13,12 @@ use Rattle.model.specs.declared.answer.Answer.TheVariants.{Done, Refused}
 use Rattle.model_laws.specs.Now.{AxisSound, half, first_of}
 use Rattle.simset_laws.specs.Calls.{or_none}
 use Rattle.simset_laws.specs.Procedures.{preceded}
-use Rattle.simset_laws.specs.Full.{set_at, full_for, known_room, raised}
+use Rattle.simset_laws.specs.Full.{full_for, known_room, raised}
 use Rattle.simset_laws.specs.KnownRoom.{Roomy}
 use Rattle.simset_laws.proofs.KnownRoom.{has_room, room_raised, raised_covers}
-use Rattle.simset_laws.specs.Promise.{none_or, head_in, party_fine}
-use Rattle.simset_laws.specs.BoundLaws.{Covers, Linking, covers_less}
+use Rattle.simset_laws.specs.Promise.{party_fine}
+use Rattle.simset_laws.specs.BoundLaws.{Covers, Linking}
 use Rattle.simset_laws.proofs.BoundLaws.{covers_preceded}
-use Rattle.simset_laws.specs.Entering.{Tested}
 use Rattle.simulation_laws.specs.Procedures.{Sqs, made, lone, drop_on}
 use Rattle.simulation_laws.specs.Calls.{Waited, wait_step}
 use Rattle.simulation_laws.specs.Promise.{sqs, Left, Place, Lone, Judged}

@@ -1,7 +1,4 @@
-use Prim.Native.Nat.{◌-◌}
-use lib.ListN.{length}
-use Rattle.model_fresh.proofs.Filling.{Zeroed, zeroed_start, zeroed_turn, zeroed_out}
-use borrow.Author.Rules.{rules}
+use Rattle.model_fresh.proofs.Filling.{zeroed_start, zeroed_turn, zeroed_out}
 use native.Mathlib.Omega.{arith}
 use Rattle.model_fresh.proofs.clear_times.Goals as goal
 

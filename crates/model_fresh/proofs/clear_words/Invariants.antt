@@ -1,7 +1,6 @@
 use Prim.Native.Nat.{◌-◌}
 use lib.ListN.{length}
-use Rattle.model_fresh.proofs.Filling.{Zeroed, zeroed_start, zeroed_turn, zeroed_out}
-use native.Mathlib.Omega.{arith}
+use Rattle.model_fresh.proofs.Filling.{Zeroed}
 use Rattle.model_fresh.proofs.clear_words.Given as goal
 
 abbrev pub invariant-loop-i : goal.invariant-loop-i

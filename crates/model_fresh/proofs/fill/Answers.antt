@@ -1,5 +1,4 @@
 use Rattle.model_fresh.proofs.Filling.{links_are, filled}
-use borrow.Author.Rules.{rules}
 use Rattle.model_fresh.proofs.fill.Goals as goal
 
 pub returns : goal.returns

@@ -1,6 +1,5 @@
 use Rattle.model_fresh.proofs.Filling.{fresh_limits, fresh_lengths, fresh_filled}
 use Rattle.model_laws.proofs.Verdict.{verdict_sized}
-use borrow.Author.Rules.{rules}
 use Rattle.std.proofs.Common.{ap, not}
 use Rattle.model_fresh.proofs.fresh.Goals as goal
 

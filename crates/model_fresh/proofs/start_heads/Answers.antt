@@ -1,7 +1,4 @@
-use mathlib.Core.Path.{sym, ◌∙◌}
-use Prim.Native.Nat.{◌-◌}
-use Rattle.model_fresh.proofs.Filling.{Started, started_start, started_turn, started_length, started_out}
-use borrow.Author.Rules.{rules}
+use Rattle.model_fresh.proofs.Filling.{started_start, started_turn, started_length, started_out}
 use native.Mathlib.Omega.{arith}
 use Rattle.model_fresh.proofs.start_heads.Goals as goal
 

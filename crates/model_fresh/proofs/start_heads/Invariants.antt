@@ -1,7 +1,5 @@
-use mathlib.Core.Path.{sym, ◌∙◌}
 use Prim.Native.Nat.{◌-◌}
-use Rattle.model_fresh.proofs.Filling.{Started, started_start, started_turn, started_length, started_out}
-use native.Mathlib.Omega.{arith}
+use Rattle.model_fresh.proofs.Filling.{Started}
 use Rattle.model_fresh.proofs.start_heads.Given as goal
 
 abbrev pub invariant-loop-h : goal.invariant-loop-h

@@ -1,5 +1,4 @@
 use Rattle.model_judge.proofs.AxisCode.{axis_time, axis_mark, axis_rings, axis_empty, axis_rest}
-use borrow.Author.Rules.{rules}
 use Rattle.std.proofs.Common.{ap, not}
 use Rattle.model_judge.proofs.axis_fine.Goals as goal
 

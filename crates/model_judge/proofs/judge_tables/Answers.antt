@@ -1,5 +1,4 @@
 use Rattle.model_laws.proofs.Verdict.{verdict_limits, verdict_lengths, verdict_sized, verdict_formed, verdict_fine}
-use borrow.Author.Rules.{rules}
 use Rattle.std.proofs.Common.{ap, not}
 use Rattle.model_judge.proofs.judge_tables.Goals as goal
 

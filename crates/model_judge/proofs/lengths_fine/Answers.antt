@@ -1,5 +1,4 @@
 use Rattle.model_judge.proofs.Verdicts.{lengths_links, lengths_axis, lengths_times, lengths_marks}
-use borrow.Author.Rules.{rules}
 use Rattle.model_judge.proofs.lengths_fine.Goals as goal
 
 pub returns-then-links-n : goal.returns-then-links-n

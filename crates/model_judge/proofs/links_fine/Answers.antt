@@ -1,5 +1,4 @@
 use Rattle.model_judge.proofs.Verdicts.{links_most}
-use borrow.Author.Rules.{rules}
 use Rattle.model_judge.proofs.links_fine.Goals as goal
 
 pub returns : goal.returns

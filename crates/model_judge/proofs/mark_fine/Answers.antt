@@ -1,6 +1,5 @@
 use mathlib.Core.Path.{sym, ◌∙◌}
 use Rattle.axis_laws.specs.Marks.{mark_none, mark_other, mark_main, mark_idle}
-use borrow.Author.Rules.{rules}
 use Rattle.model_judge.proofs.mark_fine.Goals as goal
 
 pub returns-then-k-eq0 : goal.returns-then-k-eq0

@@ -1,5 +1,4 @@
-use Rattle.model_judge.proofs.AxisCode.{Places, places_start, places_out, places_late, places_marked, places_turn}
-use borrow.Author.Rules.{rules}
+use Rattle.model_judge.proofs.AxisCode.{places_start, places_out, places_late, places_marked, places_turn}
 use Rattle.std.proofs.Common.{ap, not}
 use Rattle.model_judge.proofs.places_fine.Goals as goal
 

@@ -1,5 +1,4 @@
-use Rattle.model_judge.proofs.AxisCode.{Places, places_start, places_out, places_late, places_marked, places_turn}
-use Rattle.std.proofs.Common.{ap, not}
+use Rattle.model_judge.proofs.AxisCode.{Places}
 use Rattle.model_judge.proofs.places_fine.Given as goal
 
 abbrev pub invariant-loop-i : goal.invariant-loop-i

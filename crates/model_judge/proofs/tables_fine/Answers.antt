@@ -1,5 +1,4 @@
 use Rattle.model_judge.proofs.Verdicts.{tables_not, tables_rest}
-use borrow.Author.Rules.{rules}
 use Rattle.std.proofs.Common.{ap, not}
 use Rattle.model_judge.proofs.tables_fine.Goals as goal
 

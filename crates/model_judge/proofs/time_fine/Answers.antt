@@ -1,5 +1,4 @@
 use Rattle.model_judge.proofs.AxisCode.{t_idle, t_past, t_last, t_next}
-use borrow.Author.Rules.{rules}
 use Rattle.model_judge.proofs.time_fine.Goals as goal
 
 pub returns-then-zeros : goal.returns-then-zeros

@@ -1,6 +1,5 @@
 use borrow.Author.Rules.{rules}
-use Prim.Native.Nat.{◌-◌}
-use Rattle.ring.proofs.Counting.{Counting, counting_start, counting_turn, counting_found, counting_out}
+use Rattle.ring.proofs.Counting.{counting_start, counting_turn, counting_found, counting_out}
 use Rattle.ring.proofs.count.Goals as goal
 
 pub loop-n-init : goal.loop-n-init

@@ -1,5 +1,5 @@
 use Prim.Native.Nat.{◌-◌}
-use Rattle.ring.proofs.Counting.{Counting, counting_start, counting_turn, counting_found, counting_out}
+use Rattle.ring.proofs.Counting.{Counting}
 use Rattle.ring.proofs.count.Given as goal
 
 abbrev pub invariant-loop-n : goal.invariant-loop-n

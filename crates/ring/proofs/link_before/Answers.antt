@@ -1,10 +1,7 @@
 use Rattle.ring_laws.specs.Sound.{made, sound_before}
 use mathlib.Core.Path.{refl}
-use Prim.Native.Nat.{◌+◌, ◌<◌}
-use lib.ListN.{get_or, length-set}
 use Rattle.ring_laws.specs.Table.{linked_before}
 use borrow.Author.Rules.{rules}
-use native.Mathlib.Omega.{arith}
 use Rattle.ring.proofs.link_before.Goals as goal
 
 pub returns : goal.returns

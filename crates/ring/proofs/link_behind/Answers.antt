@@ -1,9 +1,6 @@
 use borrow.Author.Rules.{rules}
 use Rattle.ring_laws.specs.Sound.{made, sound_behind}
-use native.Mathlib.Omega.{arith}
 use mathlib.Core.Path.{refl}
-use Prim.Native.Nat.{◌<◌}
-use lib.ListN.{get_or, length-set}
 use Rattle.ring_laws.specs.Table.{linked_behind}
 use Rattle.ring.proofs.link_behind.Goals as goal
 

@@ -1,8 +1,5 @@
 use borrow.Author.Rules.{rules}
 use Rattle.ring_laws.specs.Sound.{made, sound_unlinked}
-use native.Mathlib.Omega.{arith}
-use Prim.Native.Nat.{◌+◌, ◌<◌}
-use lib.ListN.{get_or, length-set}
 use borrow.Author.Tests.{eq-eqb, ne_eqb}
 use Rattle.ring_laws.specs.Table.{unlinked}
 use Rattle.ring.proofs.unlink_behind.Goals as goal

@@ -1,5 +1,4 @@
-use Rattle.ring_judge.proofs.Judging.{Heads, heads_start, heads_broken, heads_long, heads_turn, heads_out}
-use borrow.Author.Rules.{rules}
+use Rattle.ring_judge.proofs.Judging.{heads_start, heads_broken, heads_long, heads_turn, heads_out}
 use native.Mathlib.Omega.{arith}
 use Rattle.ring_judge.proofs.all_closed.Goals as goal
 

@@ -1,5 +1,4 @@
-use Rattle.ring_judge.proofs.Judging.{Heads, heads_start, heads_broken, heads_long, heads_turn, heads_out}
-use native.Mathlib.Omega.{arith}
+use Rattle.ring_judge.proofs.Judging.{Heads}
 use Rattle.ring_judge.proofs.all_closed.Given as goal
 
 abbrev pub invariant-loop-i : goal.invariant-loop-i

@@ -1,6 +1,4 @@
-use Prim.Native.Nat.{◌-◌, ◌≤◌}
-use Rattle.ring_judge.proofs.Judging.{Weighs, weighs_start, weighs_turn, weighs_out}
-use borrow.Author.Rules.{rules}
+use Rattle.ring_judge.proofs.Judging.{weighs_start, weighs_turn, weighs_out}
 use native.Mathlib.Omega.{arith}
 use Rattle.ring_judge.proofs.count_busy.Goals as goal
 

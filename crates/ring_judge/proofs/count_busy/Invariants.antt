@@ -1,6 +1,5 @@
 use Prim.Native.Nat.{◌-◌, ◌≤◌}
-use Rattle.ring_judge.proofs.Judging.{Weighs, weighs_start, weighs_turn, weighs_out}
-use native.Mathlib.Omega.{arith}
+use Rattle.ring_judge.proofs.Judging.{Weighs}
 use Rattle.ring_judge.proofs.count_busy.Given as goal
 
 abbrev pub invariant-loop-j : goal.invariant-loop-j

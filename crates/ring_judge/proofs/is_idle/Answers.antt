@@ -1,5 +1,4 @@
 use Rattle.ring_judge.proofs.Judging.{not_idle, half_idle}
-use borrow.Author.Rules.{rules}
 use Rattle.ring_judge.proofs.is_idle.Goals as goal
 
 pub returns-then-t-x-ne0 : goal.returns-then-t-x-ne0

@@ -1,6 +1,4 @@
-use borrow.Author.Tests.{not-true, not-false}
 use Rattle.ring_judge.proofs.Judging.{next_not, next_in_table, next_one_way, next_is}
-use borrow.Author.Rules.{rules}
 use native.Mathlib.Omega.{arith}
 use Rattle.ring_judge.proofs.next_place.Goals as goal
 

@@ -1,5 +1,4 @@
 use Rattle.ring_judge.proofs.Judging.{not_fine, is_fine_lem}
-use borrow.Author.Rules.{rules}
 use Rattle.std.proofs.Common.{ap, not}
 use Rattle.ring_judge.proofs.rings_fine.Goals as goal
 

@@ -1,5 +1,4 @@
-use Rattle.ring_judge.proofs.Judging.{Rounds, rounds_start, rounds_broken, rounds_back, rounds_short, rounds_turn}
-use borrow.Author.Rules.{rules}
+use Rattle.ring_judge.proofs.Judging.{rounds_start, rounds_broken, rounds_back, rounds_short, rounds_turn}
 use Rattle.ring_judge.proofs.round.Goals as goal
 
 pub loop-m-init : goal.loop-m-init

@@ -1,4 +1,4 @@
-use Rattle.ring_judge.proofs.Judging.{Rounds, rounds_start, rounds_broken, rounds_back, rounds_short, rounds_turn}
+use Rattle.ring_judge.proofs.Judging.{Rounds}
 use Rattle.ring_judge.proofs.round.Given as goal
 
 abbrev pub invariant-loop-m : goal.invariant-loop-m

@@ -1,5 +1,4 @@
 use Rattle.ring_judge.proofs.Judging.{weight_zero, weight_one}
-use borrow.Author.Rules.{rules}
 use Rattle.ring_judge.proofs.weight.Goals as goal
 
 pub returns-then-zeros : goal.returns-then-zeros

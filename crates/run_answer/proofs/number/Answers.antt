@@ -1,7 +1,6 @@
 use mathlib.Core.Path.{ap₂, ◌∙◌}
 use Prim.Native.Nat.{ℕ, ◌+◌, ◌*◌}
 use Rattle.run_laws.specs.Run.{ran_number}
-use borrow.Author.Rules.{rules}
 use Rattle.run_answer.proofs.number.Goals as goal
 
 pub returns : goal.returns

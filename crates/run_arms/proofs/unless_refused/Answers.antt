@@ -1,7 +1,6 @@
 use mathlib.Core.Path.{sym, ap}
 use Rattle.model.specs.declared.answer.Answer.{Answer}
 use Rattle.run_laws.specs.Performed.{unless_refused}
-use borrow.Author.Rules.{rules}
 use Rattle.run_arms.proofs.unless_refused.Goals as goal
 
 pub returns-in-Done : goal.returns-in-Done

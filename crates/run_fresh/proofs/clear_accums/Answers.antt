@@ -1,8 +1,5 @@
-use Rattle.run_laws.specs.Filling.{Cleared, cleared_start, cleared_turn, cleared_out}
-use Prim.Native.Nat.{◌-◌}
-use lib.ListN.{length}
+use Rattle.run_laws.specs.Filling.{cleared_start, cleared_turn, cleared_out}
 use mathlib.Core.Path.{refl}
-use borrow.Author.Rules.{rules}
 use native.Mathlib.Omega.{arith}
 use Rattle.run_fresh.proofs.clear_accums.Goals as goal
 

@@ -1,8 +1,6 @@
-use Rattle.run_laws.specs.Filling.{Cleared, cleared_start, cleared_turn, cleared_out}
+use Rattle.run_laws.specs.Filling.{Cleared}
 use Prim.Native.Nat.{◌-◌}
 use lib.ListN.{length}
-use mathlib.Core.Path.{refl}
-use native.Mathlib.Omega.{arith}
 use Rattle.run_fresh.proofs.clear_accums.Given as goal
 
 abbrev pub invariant-loop-i : goal.invariant-loop-i

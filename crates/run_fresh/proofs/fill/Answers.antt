@@ -1,7 +1,6 @@
 use Rattle.run_laws.specs.Filling.{at}
 use Rattle.run_laws.specs.Filling.{fill_positions, fill_words, starts_inside, fill_model, fill_all}
 use Rattle.run_laws.specs.Run.{lent}
-use borrow.Author.Rules.{rules}
 use Rattle.run_fresh.proofs.fill.Goals as goal
 
 pub returns-then-positions-wide : goal.returns-then-positions-wide

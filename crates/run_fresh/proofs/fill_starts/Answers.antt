@@ -1,6 +1,4 @@
-use Rattle.run_laws.specs.Filling.{Starting, starting, start_inside, starting_turn, starting_out}
-use Prim.Native.Nat.{◌-◌}
-use borrow.Author.Rules.{rules}
+use Rattle.run_laws.specs.Filling.{starting, start_inside, starting_turn, starting_out}
 use native.Mathlib.Omega.{arith}
 use Rattle.run_fresh.proofs.fill_starts.Goals as goal
 

@@ -1,6 +1,5 @@
-use Rattle.run_laws.specs.Filling.{Starting, starting, start_inside, starting_turn, starting_out}
+use Rattle.run_laws.specs.Filling.{Starting}
 use Prim.Native.Nat.{◌-◌}
-use native.Mathlib.Omega.{arith}
 use Rattle.run_fresh.proofs.fill_starts.Given as goal
 
 abbrev pub invariant-loop-p : goal.invariant-loop-p

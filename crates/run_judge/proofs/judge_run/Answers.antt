@@ -1,6 +1,5 @@
 use Rattle.run_laws.specs.Judging.{model_sizes, positions_size, words_size, trace_size, tables_not, tables_fine_lem}
 use Rattle.run_laws.specs.Run.{lent}
-use borrow.Author.Rules.{rules}
 use Rattle.std.proofs.Common.{ap, not}
 use Rattle.run_judge.proofs.judge_run.Goals as goal
 

@@ -2,8 +2,6 @@ use mathlib.Core.Path.{sym, ◌∙◌}
 use Rattle.model_laws.proofs.Ready.{judged_ready}
 use Rattle.model_laws.specs.Called.{asked_turned, asked_fine}
 use Rattle.simulation_laws.specs.Promise.{ready_judged}
-use borrow.Author.Rules.{rules}
-use native.Mathlib.Omega.{arith}
 use Rattle.simula.proofs.query.Goals as goal
 
 pub tell-requires-clause-judged : goal.tell-requires-clause-judged

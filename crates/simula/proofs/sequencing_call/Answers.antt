@@ -2,8 +2,6 @@ use mathlib.Core.Path.{sym, ◌∙◌}
 use Rattle.model_laws.proofs.Ready.{judged_ready}
 use Rattle.model_laws.specs.Called.{called_turned, called_fine}
 use Rattle.simulation_laws.specs.Promise.{ready_takeable}
-use borrow.Author.Rules.{rules}
-use native.Mathlib.Omega.{arith}
 use Rattle.simula.proofs.sequencing_call.Goals as goal
 
 pub sequencing_answer-requires-clause-takeable : goal.sequencing_answer-requires-clause-takeable

@@ -3,8 +3,6 @@ use Rattle.model_laws.proofs.Ready.{judged_ready}
 use Rattle.model_laws.specs.Called.{called_turned, called_fine}
 use Rattle.simset_laws.specs.Told.{links_answered}
 use Rattle.simset_laws.specs.Promise.{on_links_lem}
-use borrow.Author.Rules.{rules}
-use native.Mathlib.Omega.{arith}
 use Rattle.simula.proofs.set_call.Goals as goal
 
 pub set_answer-requires : goal.set_answer-requires

@@ -1,4 +1,3 @@
-use borrow.Author.Rules.{rules}
 use Rattle.simulation_laws.specs.Promise.{read_past}
 use Rattle.simulation_axis.proofs.due.Goals as goal
 

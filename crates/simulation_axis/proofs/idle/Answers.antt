@@ -1,4 +1,3 @@
-use borrow.Author.Rules.{rules}
 use Rattle.simulation_axis.proofs.Reading.{idle_test}
 use Rattle.simulation_axis.proofs.idle.Goals as goal
 

@@ -1,6 +1,4 @@
-use borrow.Author.Rules.{rules}
 use native.Mathlib.Omega.{arith}
-use Prim.Native.Nat.{◌-◌}
 use Rattle.simulation_axis.proofs.Reading.{lone_test}
 use Rattle.simulation_axis.proofs.lone.Goals as goal
 

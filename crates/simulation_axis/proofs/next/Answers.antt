@@ -1,4 +1,3 @@
-use borrow.Author.Rules.{rules}
 use Rattle.simulation_axis.proofs.Reading.{next_read}
 use Rattle.simulation_axis.proofs.next.Goals as goal
 

@@ -1,4 +1,3 @@
-use borrow.Author.Rules.{rules}
 use Rattle.simulation_axis.proofs.Reading.{prev_read}
 use Rattle.simulation_axis.proofs.prev.Goals as goal
 

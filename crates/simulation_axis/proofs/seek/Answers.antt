@@ -1,7 +1,6 @@
 use borrow.Author.Rules.{rules}
 use native.Mathlib.Omega.{arith}
-use Prim.Native.Nat.{◌-◌}
-use Rattle.simulation_axis.proofs.Seeks.{Seeks, seeks_start, seeks_turn, seeks_head, seeks_back, seeks_front, seeks_out}
+use Rattle.simulation_axis.proofs.Seeks.{seeks_start, seeks_turn, seeks_head, seeks_back, seeks_front, seeks_out}
 use Rattle.simulation_axis.proofs.seek.Goals as goal
 
 pub overflow_sub-head : goal.overflow_sub-head

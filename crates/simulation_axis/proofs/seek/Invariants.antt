@@ -1,6 +1,5 @@
-use native.Mathlib.Omega.{arith}
 use Prim.Native.Nat.{◌-◌}
-use Rattle.simulation_axis.proofs.Seeks.{Seeks, seeks_start, seeks_turn, seeks_head, seeks_back, seeks_front, seeks_out}
+use Rattle.simulation_axis.proofs.Seeks.{Seeks}
 use Rattle.simulation_axis.proofs.seek.Given as goal
 
 abbrev pub invariant-loop-n : goal.invariant-loop-n

@@ -1,6 +1,5 @@
 use Prim.Native.Nat.{◌*◌, ◌-◌, ◌≤◌}
 use mathlib.Core.Path.{◌≡◌}
-use native.Mathlib.Omega.{arith}
 use Rattle.trace.proofs.lines_in.Given as goal
 
 -- so many bytes are so many lines, and they fit

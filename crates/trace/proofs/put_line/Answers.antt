@@ -3,7 +3,6 @@ use Rattle.trace.specs.Lines.{put, bytes4}
 use mathlib.Core.Path.{◌∙◌, ap}
 use mathlib.Core.List.{List}
 use Prim.Native.Nat.{ℕ, ◌+◌}
-use borrow.Author.Rules.{rules}
 use Rattle.trace.proofs.put_line.Goals as goal
 
 pub returns : goal.returns

@@ -2,7 +2,6 @@ use mathlib.Core.Path.{◌∙◌, ap}
 use mir.Syntax.{w64}
 use mir.Val.{to_z}
 use mir.ValLaws.{to_z-of_z}
-use borrow.Author.Rules.{rules}
 use Rattle.words.specs.Words.{i64_at}
 use Rattle.words.proofs.i64_at.Goals as goal
 

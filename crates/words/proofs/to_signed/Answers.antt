@@ -1,7 +1,6 @@
 use mathlib.Core.Path.{◌∙◌}
 use mir.Syntax.{w64}
 use mir.ValLaws.{to_z-of_z}
-use borrow.Author.Rules.{rules}
 use Rattle.words.specs.Signed.{high_fits, high_word}
 use Rattle.words.proofs.to_signed.Goals as goal
 

@@ -1,4 +1,3 @@
-use borrow.Author.Rules.{rules}
 use Rattle.words.specs.Words.{u32_at}
 use Rattle.words.proofs.u32_at.Goals as goal
 

@@ -1,4 +1,3 @@
-use borrow.Author.Rules.{rules}
 use Rattle.words.specs.Words.{u64_at}
 use Rattle.words.proofs.u64_at.Goals as goal
 

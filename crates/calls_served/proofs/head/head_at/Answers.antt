@@ -2,8 +2,6 @@ use mathlib.Core.Path.{◌∙◌}
 use mir.Syntax.{w64}
 use mir.ValLaws.{to_z-of_z}
 use Rattle.calls_served.specs.Heads.{head_is}
-use borrow.Author.Rules.{rules}
-use native.Mathlib.Omega.{arith}
 use Rattle.calls_served.proofs.head.head_at.Goals as goal
 
 pub returns : goal.returns

@@ -1,6 +1,5 @@
 use mathlib.Core.Path.{sym, subst}
 use lib.Dec.{T}
-use borrow.Author.Rules.{rules}
 use Rattle.calls_served.proofs.head.model_fits.Goals as goal
 
 pub returns-then-n-gt8448 : goal.returns-then-n-gt8448

@@ -1,6 +1,5 @@
 use mathlib.Core.Path.{sym, subst}
 use lib.Dec.{T}
-use borrow.Author.Rules.{rules}
 use Rattle.calls_served.proofs.head.run_fits.Goals as goal
 
 pub returns-then-n-gt80 : goal.returns-then-n-gt80

@@ -1,6 +1,5 @@
 use borrow.Author.Tests.{le-leb, lt-leb}
 use Rattle.model.specs.Counts.{and_off, and_on}
-use borrow.Author.Rules.{rules}
 use Rattle.model.proofs.Counts.is_linkage.Goals as goal
 
 pub returns-then-i-lt1 : goal.returns-then-i-lt1

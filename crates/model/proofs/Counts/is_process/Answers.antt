@@ -1,6 +1,5 @@
 use borrow.Author.Tests.{le-ltb, lt-ltb}
 use Rattle.model.specs.Counts.{and_off, and_on}
-use borrow.Author.Rules.{rules}
 use Rattle.model.proofs.Counts.is_process.Goals as goal
 
 pub returns-then-i-self : goal.returns-then-i-self

@@ -1,5 +1,4 @@
 use Rattle.model.specs.Counts.{made_not, made_fine}
-use borrow.Author.Rules.{rules}
 use Rattle.std.proofs.Common.{ap, not}
 use Rattle.model.proofs.Counts.new.Goals as goal
 

@@ -1,7 +1,6 @@
 use mathlib.Core.Path.{◌∙◌}
 use mir.Syntax.{w64}
 use mir.ValLaws.{to_z-of_z}
-use borrow.Author.Rules.{rules}
 use Rattle.run_arms.proofs.arms.accum_of.Goals as goal
 
 pub x_at-k-requires : goal.x_at-k-requires

@@ -1,4 +1,3 @@
-use borrow.Author.Rules.{rules}
 use Rattle.run_arms.proofs.arms.cancel_of.Goals as goal
 
 pub x_of-process-requires : goal.x_of-process-requires

@@ -1,7 +1,6 @@
 use mathlib.Core.Path.{◌∙◌}
 use Rattle.simulation_laws.specs.WaitPromise.{made_as}
 use Rattle.run_laws.proofs.ReadsLaws.{operand_low}
-use borrow.Author.Rules.{rules}
 use native.Mathlib.Omega.{arith}
 use Rattle.run_arms.proofs.arms.wait_known_of.Goals as goal
 

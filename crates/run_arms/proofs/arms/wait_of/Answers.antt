@@ -1,5 +1,4 @@
 use Rattle.simulation_laws.specs.WaitPromise.{waited_as}
-use borrow.Author.Rules.{rules}
 use Rattle.run_arms.proofs.arms.wait_of.Goals as goal
 
 pub y_of-y-requires : goal.y_of-y-requires

@@ -1,5 +1,3 @@
-use borrow.Author.Rules.{rules}
-use native.Mathlib.Omega.{arith}
 use Rattle.run_arms.proofs.members.member.Goals as goal
 
 pub process_from-requires-clause-sound : goal.process_from-requires-clause-sound

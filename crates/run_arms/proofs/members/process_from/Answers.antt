@@ -1,5 +1,4 @@
 use mathlib.Core.Path.{sym, ◌∙◌}
-use borrow.Author.Rules.{rules}
 use Rattle.run_laws.specs.Walking.{no_walk}
 use Rattle.run_arms.proofs.members.process_from.Goals as goal
 

@@ -1,9 +1,5 @@
-use Prim.Native.Nat.{◌+◌}
 use mathlib.Core.Path.{sym, ◌∙◌}
-use borrow.Author.Rules.{rules}
 use native.Mathlib.Omega.{arith}
-use Rattle.model.specs.Counts.{is_process, total}
-use Rattle.simset_laws.specs.Walk.{Walking}
 use Rattle.simset_laws.proofs.Walk.{walk_start, walk_found, walk_none, walk_on, walk_out}
 use Rattle.run_arms.proofs.members.walk.Goals as goal
 

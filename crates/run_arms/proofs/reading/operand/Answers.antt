@@ -1,5 +1,4 @@
 use Rattle.run_laws.proofs.ReadsLaws.{operand_low, operand_current, above, head_within, operand_member}
-use borrow.Author.Rules.{rules}
 use native.Mathlib.Omega.{arith}
 use Rattle.run_arms.proofs.reading.operand.Goals as goal
 

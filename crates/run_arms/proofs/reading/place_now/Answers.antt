@@ -1,7 +1,6 @@
 use Prim.Native.Nat.{ℕ, ◌+◌}
 use mathlib.Core.Path.{ap, ◌∙◌}
 use Rattle.model_laws.specs.Now.{first_of}
-use borrow.Author.Rules.{rules}
 use Rattle.run_arms.proofs.reading.place_now.Goals as goal
 
 pub first-requires : goal.first-requires

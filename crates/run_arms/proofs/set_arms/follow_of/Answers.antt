@@ -1,6 +1,5 @@
 use Rattle.simset_laws.specs.Calls.{follow_step}
 use Rattle.simset_laws.specs.Entering.{entered_as}
-use borrow.Author.Rules.{rules}
 use Rattle.run_arms.proofs.set_arms.follow_of.Goals as goal
 
 pub x_of-x-requires : goal.x_of-x-requires

@@ -2,7 +2,6 @@ use mathlib.Core.Path.{◌∙◌}
 use Rattle.simset_laws.specs.Calls.{into_step}
 use Rattle.simset_laws.specs.Promise.{moved_of}
 use Rattle.run_laws.proofs.ReadsLaws.{operand_low}
-use borrow.Author.Rules.{rules}
 use native.Mathlib.Omega.{arith}
 use Rattle.run_arms.proofs.set_arms.into_known_of.Goals as goal
 

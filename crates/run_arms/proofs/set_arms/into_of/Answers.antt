@@ -1,6 +1,5 @@
 use Rattle.simset_laws.specs.Calls.{into_step}
 use Rattle.simset_laws.specs.Entering.{entered_as}
-use borrow.Author.Rules.{rules}
 use Rattle.run_arms.proofs.set_arms.into_of.Goals as goal
 
 pub x_of-link-requires : goal.x_of-link-requires

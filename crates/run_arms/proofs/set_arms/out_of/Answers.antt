@@ -1,4 +1,3 @@
-use borrow.Author.Rules.{rules}
 use Rattle.run_arms.proofs.set_arms.out_of.Goals as goal
 
 pub x_of-x-requires : goal.x_of-x-requires

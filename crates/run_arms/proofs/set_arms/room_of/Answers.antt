@@ -1,5 +1,4 @@
 use Rattle.simset_laws.specs.KnownRoom.{known_as}
-use borrow.Author.Rules.{rules}
 use Rattle.run_arms.proofs.set_arms.room_of.Goals as goal
 
 pub y_at-y-requires : goal.y_at-y-requires

@@ -1,7 +1,6 @@
 use mathlib.Core.Path.{sym, ◌∙◌}
 use mir.Syntax.{w64}
 use mir.ValLaws.{to_z-of_z}
-use borrow.Author.Rules.{rules}
 use native.Mathlib.Omega.{arith}
 use Rattle.run_laws.specs.Performing.{judged, x_readable}
 use Rattle.run_laws.proofs.Soon.{soon_left, soon_delayed}

@@ -1,5 +1,4 @@
 use mathlib.Core.Path.{sym}
-use borrow.Author.Rules.{rules}
 use native.Mathlib.Omega.{arith}
 use Rattle.run_laws.specs.Performing.{judged, x_readable}
 use Rattle.run_laws.proofs.Soon.{soon_left, soon_direct}

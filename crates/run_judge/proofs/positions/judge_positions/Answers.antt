@@ -1,5 +1,4 @@
 use Rattle.run_judge.proofs.Judging.{positions_length, positions_not, positions_fine_lem}
-use borrow.Author.Rules.{rules}
 use Rattle.std.proofs.Common.{ap, not}
 use Rattle.run_judge.proofs.positions.judge_positions.Goals as goal
 

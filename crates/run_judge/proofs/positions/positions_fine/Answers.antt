@@ -1,5 +1,4 @@
-use Rattle.run_judge.proofs.Judging.{Downto, stands_start, stands_past, stands_turn, stands_out}
-use borrow.Author.Rules.{rules}
+use Rattle.run_judge.proofs.Judging.{stands_start, stands_past, stands_turn, stands_out}
 use Rattle.run_judge.proofs.positions.positions_fine.Goals as goal
 
 pub loop-i-init : goal.loop-i-init

@@ -1,4 +1,4 @@
-use Rattle.run_judge.proofs.Judging.{Downto, stands_start, stands_past, stands_turn, stands_out}
+use Rattle.run_judge.proofs.Judging.{Downto}
 use Rattle.run_judge.proofs.positions.positions_fine.Given as goal
 
 abbrev pub invariant-loop-i : goal.invariant-loop-i

@@ -6,7 +6,6 @@ use Rattle.run_laws.specs.Reads.{got_end}
 use Rattle.run_laws.specs.Run.{record_got}
 use Rattle.run_laws.specs.Tried.{apart}
 use Rattle.run_laws.specs.Performing.{record_is, performed_at}
-use borrow.Author.Rules.{rules}
 use native.Mathlib.Omega.{arith}
 use Rattle.run_step.proofs.apart.perform_apart.Goals as goal
 

@@ -1,6 +1,5 @@
 use mathlib.Core.Path.{sym, ap}
 use Rattle.run_laws.specs.Performed.{verdict_by}
-use borrow.Author.Rules.{rules}
 use Rattle.run_step.proofs.apart.verdict_of.Goals as goal
 
 pub returns-in-Refused : goal.returns-in-Refused

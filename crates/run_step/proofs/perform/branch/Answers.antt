@@ -2,7 +2,6 @@ use mathlib.Core.Path.{refl, ◌∙◌}
 use Rattle.simset_laws.specs.Promise.{failed, passed, head_in}
 use Rattle.sheet.specs.Sheet.{record_from}
 use Rattle.run_laws.proofs.ReadsLaws.{operand_low, no_head, branch_3, branch_to, branch_on}
-use borrow.Author.Rules.{rules}
 use native.Mathlib.Omega.{arith}
 use Rattle.std.proofs.Common.{ap, not}
 use Rattle.run_step.proofs.perform.branch.Goals as goal

@@ -4,7 +4,6 @@ use Rattle.run_laws.specs.Reads.{got_end}
 use Rattle.run_laws.specs.Run.{record_got}
 use Rattle.run_laws.proofs.Tried.{left_0, tried_not}
 use Rattle.run_laws.specs.Performing.{tried_at}
-use borrow.Author.Rules.{rules}
 use native.Mathlib.Omega.{arith}
 use Rattle.run_step.proofs.perform.perform.Goals as goal
 

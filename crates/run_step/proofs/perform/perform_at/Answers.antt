@@ -1,4 +1,3 @@
-use borrow.Author.Tests.{not-true}
 use Rattle.simset_laws.specs.Promise.{failed, passed}
 use Rattle.simset_laws.proofs.Entering.{covers_out_step}
 use Rattle.simset_laws.specs.KnownRoom.{left_covers}

@@ -1,18 +1,11 @@
-use Prim.Native.Nat.{◌-◌, ◌/◌}
-use mathlib.Core.Path.{◌≡◌, refl, ap, ◌∙◌}
-use lib.ListN.{length}
-use Rattle.simset_laws.specs.BoundLaws.{Covers}
-use Rattle.machine.specs.Run.{line_size}
+use mathlib.Core.Path.{refl, ap, ◌∙◌}
 use Rattle.run_laws.specs.declared.Effect.TheVariants.{Stays, Moves}
-use Rattle.run_laws.specs.Run.{lent, turns_on}
 use Rattle.run_laws.specs.Tried.{is_apart}
 use Rattle.run_laws.specs.Standing.{its_judged, in_positions, in_times}
 use Rattle.run_laws.specs.StepIs.{stayed, to_next, jumps_to}
-use Rattle.run_laws.proofs.Counting.{few_bytes, line_in_lem}
-use Rattle.run_laws.specs.Stretching.{Stretching}
-use Rattle.run_laws.proofs.Stretching.{stretching_start, its_call_lem, its_linking, in_table, lengths, its_number, stopped, stays, stands_on, next_kept, moves}
+use Rattle.run_laws.proofs.Counting.{line_in_lem}
+use Rattle.run_laws.proofs.Stretching.{stretching_start, its_call_lem, its_linking, in_table, its_number, stopped, stays, stands_on, next_kept, moves}
 use Rattle.run_laws.proofs.StretchEnds.{fills, waits}
-use borrow.Author.Rules.{rules}
 use native.Mathlib.Omega.{arith}
 use Rattle.run_turn.proofs.stretch.stretch.Goals as goal
 

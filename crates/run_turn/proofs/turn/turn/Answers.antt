@@ -5,7 +5,6 @@ use Rattle.run_laws.specs.declared.Pause.{Pause}
 use Rattle.run_laws.specs.Standing.{allowed}
 use Rattle.run_laws.specs.Paused.{is_full, is_due}
 use Rattle.run_laws.proofs.AnyTurn.{any_made, any_refused, any_due}
-use borrow.Author.Rules.{rules}
 use native.Mathlib.Omega.{arith}
 use Rattle.run_turn.proofs.turn.turn.Goals as goal
 

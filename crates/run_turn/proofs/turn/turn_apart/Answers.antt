@@ -1,8 +1,6 @@
 use mathlib.Core.Path.{sym, ◌∙◌}
 use Rattle.run_laws.specs.Standing.{linking, ready, its_judged, in_positions, in_times, number_in}
 use Rattle.run_laws.proofs.OneTurn.{turn_callable, turn_apart, turn_finished, turn_refused, turn_made}
-use borrow.Author.Rules.{rules}
-use native.Mathlib.Omega.{arith}
 use Rattle.run_turn.proofs.turn.turn_apart.Goals as goal
 
 pub place_now-f-requires : goal.place_now-f-requires

@@ -1,7 +1,6 @@
 use mathlib.Core.Path.{◌∙◌}
 use mir.Syntax.{w64}
 use mir.ValLaws.{to_z-of_z}
-use borrow.Author.Rules.{rules}
 use Rattle.sheet.specs.Sheet.{record_from}
 use Rattle.sheet.specs.Tests.{record_is}
 use Rattle.sheet.proofs.records.record_from.Goals as goal

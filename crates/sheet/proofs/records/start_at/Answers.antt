@@ -1,4 +1,3 @@
-use borrow.Author.Rules.{rules}
 use Rattle.sheet.specs.Sheet.{start_at}
 use Rattle.sheet.proofs.records.start_at.Goals as goal
 

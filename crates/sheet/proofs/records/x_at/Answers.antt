@@ -1,4 +1,3 @@
-use borrow.Author.Rules.{rules}
 use Rattle.sheet.specs.Sheet.{record_from}
 use Rattle.sheet.proofs.records.x_at.Goals as goal
 

@@ -1,4 +1,3 @@
-use borrow.Author.Rules.{rules}
 use Rattle.sheet.specs.Tests.{shown, refuted}
 use Rattle.sheet.specs.Checking.{header_refused, header_length, starts_break, records_break, all_fine}
 use Rattle.std.proofs.Common.{ap, not}

@@ -1,4 +1,3 @@
-use borrow.Author.Rules.{rules}
 use Rattle.sheet.specs.Tests.{shown, refuted, pad_used, record_left}
 use Rattle.std.proofs.Common.{ap, not}
 use Rattle.sheet_check.proofs.check.layout_fine.Goals as goal

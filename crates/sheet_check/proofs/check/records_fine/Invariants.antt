@@ -1,8 +1,5 @@
-use mathlib.Core.Path.{refl}
-use Rattle.sheet.specs.AllTo.{Remaining, left_start, left_turn, left_break, left_out}
+use Rattle.sheet.specs.AllTo.{Remaining}
 use Rattle.sheet.specs.Accepted.{layout_fine}
-use Rattle.sheet.specs.Tests.{shown, refuted}
-use Rattle.std.proofs.Common.{ap, not}
 use Rattle.sheet_check.proofs.check.records_fine.Given as goal
 
 abbrev pub invariant-loop-r : goal.invariant-loop-r

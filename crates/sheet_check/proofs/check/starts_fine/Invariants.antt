@@ -1,6 +1,5 @@
 use lib.Dec.{leb}
-use borrow.Author.Tests.{le-leb, lt-leb}
-use Rattle.sheet.specs.AllTo.{Remaining, left_start, left_turn, left_break, left_out}
+use Rattle.sheet.specs.AllTo.{Remaining}
 use Rattle.sheet.specs.Sheet.{start_at}
 use Rattle.sheet_check.proofs.check.starts_fine.Given as goal
 

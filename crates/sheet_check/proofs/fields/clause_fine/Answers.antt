@@ -1,5 +1,4 @@
 use mathlib.Core.Path.{refl}
-use borrow.Author.Rules.{rules}
 use Rattle.sheet.specs.Tests.{or_off}
 use Rattle.sheet_check.proofs.fields.clause_fine.Goals as goal
 

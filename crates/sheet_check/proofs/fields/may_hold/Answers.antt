@@ -1,5 +1,4 @@
 use mathlib.Core.Path.{◌∙◌}
-use borrow.Author.Rules.{rules}
 use Rattle.sheet.specs.Tests.{holds_as}
 use Rattle.sheet.specs.Accepted.{may_hold}
 use Rattle.sheet_check.proofs.fields.may_hold.Goals as goal

@@ -1,5 +1,4 @@
 use mathlib.Core.Path.{◌∙◌}
-use borrow.Author.Rules.{rules}
 use Rattle.sheet.specs.Tests.{next_above, operation_none, operation_above, clause_above, fields_left}
 use Rattle.sheet_check.proofs.fields.record_fine.Goals as goal
 

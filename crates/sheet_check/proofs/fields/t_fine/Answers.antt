@@ -1,4 +1,3 @@
-use borrow.Author.Rules.{rules}
 use Rattle.sheet.specs.Tests.{word_zero, or_off}
 use Rattle.sheet_check.proofs.fields.t_fine.Goals as goal
 

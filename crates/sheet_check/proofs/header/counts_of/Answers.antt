@@ -1,5 +1,4 @@
 use mathlib.Core.Path.{◌∙◌}
-use borrow.Author.Rules.{rules}
 use Rattle.sheet.specs.Sheet.{counts_of}
 use Rattle.sheet_check.proofs.header.counts_of.Goals as goal
 

@@ -1,5 +1,4 @@
 use mathlib.Core.Path.{◌∙◌}
-use borrow.Author.Rules.{rules}
 use Rattle.sheet.specs.Sheet.{records_of}
 use Rattle.sheet.specs.Checking.{too_short, counts_refused, counts_made}
 use Rattle.sheet_check.proofs.header.read_header.Goals as goal

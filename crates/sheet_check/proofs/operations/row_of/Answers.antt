@@ -1,5 +1,4 @@
 use mathlib.Core.Path.{refl}
-use borrow.Author.Rules.{rules}
 use Rattle.sheet.specs.Operations.{row_of, row_at}
 use Rattle.sheet_check.proofs.operations.row_of.Goals as goal
 

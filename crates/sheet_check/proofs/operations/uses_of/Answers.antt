@@ -1,6 +1,5 @@
 use mathlib.Core.Path.{◌∙◌, ap}
 use borrow.Author.Tests.{not-true, not-false}
-use borrow.Author.Rules.{rules}
 use Rattle.sheet.specs.Operations.{under, under_plain, under_beside, under_timed}
 use Rattle.sheet_check.proofs.operations.uses_of.Goals as goal
 

@@ -1,10 +1,6 @@
-use native.Mathlib.Omega.{arith}
-use mathlib.Core.Path.{refl}
 use lib.Dec.{leb}
 use lib.ListN.{get_or}
-use borrow.Author.Tests.{le-leb, lt-leb}
 use Rattle.simset_laws.specs.Walk.{Walking}
-use Rattle.simset_laws.proofs.Walk.{walk_start, walk_found, walk_on, walk_out}
 use Rattle.simset.proofs.heads.head_at.Given as goal
 
 abbrev pub invariant-loop-k : goal.invariant-loop-k

@@ -1,5 +1,4 @@
-use Rattle.simset.proofs.Moving.{Clears, clears_start, clears_done, clears_turn, clears_out}
-use borrow.Author.Rules.{rules}
+use Rattle.simset.proofs.Moving.{clears_start, clears_done, clears_turn, clears_out}
 use native.Mathlib.Omega.{arith}
 use Rattle.simset.proofs.procedures.clear.Goals as goal
 

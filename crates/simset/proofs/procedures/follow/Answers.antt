@@ -1,5 +1,4 @@
 use Rattle.simset.proofs.Moving.{follows_none, follows_off, follows_on}
-use borrow.Author.Rules.{rules}
 use Rattle.simset.proofs.procedures.follow.Goals as goal
 
 pub returns-then-y-eq0 : goal.returns-then-y-eq0

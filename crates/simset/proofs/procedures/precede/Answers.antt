@@ -1,5 +1,4 @@
 use Rattle.simset.proofs.Moving.{precedes_none, precedes_off, precedes_on}
-use borrow.Author.Rules.{rules}
 use Rattle.simset.proofs.procedures.precede.Goals as goal
 
 pub returns-then-y-eq0 : goal.returns-then-y-eq0

@@ -1,5 +1,3 @@
-use borrow.Author.Rules.{rules}
-use native.Mathlib.Omega.{arith}
 use Rattle.simset.proofs.room.are_many.Goals as goal
 
 pub returns : goal.returns

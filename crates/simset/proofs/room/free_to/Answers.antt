@@ -1,5 +1,4 @@
 use mathlib.Core.Path.{sym, ◌∙◌}
-use borrow.Author.Rules.{rules}
 use Rattle.simset.proofs.room.free_to.Goals as goal
 
 pub returns-then-crowd : goal.returns-then-crowd

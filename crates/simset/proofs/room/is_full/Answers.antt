@@ -1,5 +1,4 @@
 use Rattle.simset.proofs.Rooms.{by_bound, by_count, by_head}
-use borrow.Author.Rules.{rules}
 use native.Mathlib.Omega.{arith}
 use Rattle.simset.proofs.room.is_full.Goals as goal
 

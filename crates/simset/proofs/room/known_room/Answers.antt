@@ -1,5 +1,4 @@
 use Rattle.simset_laws.proofs.KnownRoom.{known_free, known_other, known_yes, known_no}
-use borrow.Author.Rules.{rules}
 use native.Mathlib.Omega.{arith}
 use Rattle.simset.proofs.room.known_room.Goals as goal
 

@@ -1,6 +1,5 @@
 use Rattle.simset_laws.specs.Promise.{failed, passed}
 use Rattle.simset.proofs.Rooms.{set_in, not_many, beside_none, beside_some}
-use borrow.Author.Rules.{rules}
 use native.Mathlib.Omega.{arith}
 use Rattle.std.proofs.Common.{ap, not}
 use Rattle.simset.proofs.room.no_room.Goals as goal

@@ -1,5 +1,4 @@
 use Rattle.simset.proofs.Rooms.{unknown_is}
-use borrow.Author.Rules.{rules}
 use Rattle.simset.proofs.room.unknown_bounds.Goals as goal
 
 pub returns : goal.returns

@@ -1,6 +1,5 @@
 use Rattle.simset_laws.specs.Promise.{linkage_in, none_or, passed, failed}
 use Rattle.simset_laws.proofs.Entering.{beside_free, beside_not, beside_full, beside_fine}
-use borrow.Author.Rules.{rules}
 use native.Mathlib.Omega.{arith}
 use Rattle.std.proofs.Common.{ap, not}
 use Rattle.simset.proofs.steps.beside.Goals as goal

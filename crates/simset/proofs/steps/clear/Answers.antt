@@ -1,6 +1,5 @@
 use Rattle.simset_laws.specs.Promise.{head_in, moved_not, moved, failed, passed}
 use Rattle.simset_laws.specs.Calls.{clear_step}
-use borrow.Author.Rules.{rules}
 use native.Mathlib.Omega.{arith}
 use Rattle.std.proofs.Common.{ap, not}
 use Rattle.simset.proofs.steps.clear.Goals as goal

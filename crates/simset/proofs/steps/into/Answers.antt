@@ -2,7 +2,6 @@ use Rattle.simset_laws.specs.Promise.{link_in, head_in, none_or, preceded_at, pa
 use Rattle.simset_laws.proofs.BoundLaws.{covers_preceded}
 use Rattle.simset_laws.proofs.Entering.{entering_not, entering_full, entering}
 use Rattle.simset_laws.specs.Calls.{into_step}
-use borrow.Author.Rules.{rules}
 use native.Mathlib.Omega.{arith}
 use Rattle.std.proofs.Common.{ap, not}
 use Rattle.simset.proofs.steps.into.Goals as goal

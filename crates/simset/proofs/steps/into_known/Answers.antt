@@ -1,7 +1,6 @@
 use Rattle.simset_laws.specs.Promise.{link_in, preceded_at, entry_not, entered, passed, first_failed}
 use Rattle.simset_laws.specs.Calls.{into_step}
 use Rattle.simset_laws.specs.KnownRoom.{may_enter}
-use borrow.Author.Rules.{rules}
 use native.Mathlib.Omega.{arith}
 use Rattle.std.proofs.Common.{ap, not}
 use Rattle.simset.proofs.steps.into_known.Goals as goal

@@ -1,5 +1,4 @@
 use borrow.Author.Tests.{eq-eqb, ne_eqb}
-use borrow.Author.Rules.{rules}
 use Rattle.simset.proofs.steps.linkage_or_none.Goals as goal
 
 pub returns-then-y-eq0 : goal.returns-then-y-eq0

@@ -3,7 +3,6 @@ use Rattle.simset_laws.proofs.BoundLaws.{covers_preceded}
 use Rattle.simset_laws.specs.Entering.{entering_refused, entering_beside}
 use Rattle.simset_laws.proofs.Entering.{entering_not, beside_may}
 use Rattle.simset_laws.specs.Calls.{precede_step}
-use borrow.Author.Rules.{rules}
 use native.Mathlib.Omega.{arith}
 use Rattle.std.proofs.Common.{ap, not}
 use Rattle.simset.proofs.steps.precede.Goals as goal

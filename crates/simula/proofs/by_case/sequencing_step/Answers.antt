@@ -7,7 +7,6 @@ use Rattle.simulation_laws.specs.Calls.{passivate_step, cancel_step, finish_step
 use Rattle.simulation_laws.specs.ReadPromise.{on_sqs_lem, on_signed, on_marks_lem, on_sets_lem}
 use Rattle.simulation_laws.specs.PublicLaws.{call_as}
 use borrow.Author.Rules.{rules}
-use native.Mathlib.Omega.{arith}
 use Rattle.simula.proofs.by_case.sequencing_step.Goals as goal
 
 pub returns-in-Hold : goal.returns-in-Hold

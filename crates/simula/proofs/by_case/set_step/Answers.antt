@@ -1,6 +1,5 @@
 use Rattle.simset_laws.specs.Promise.{moved_as}
 use Rattle.simset_laws.proofs.UnknownBounds.{covers_unknown}
-use borrow.Author.Rules.{rules}
 use Rattle.simula.proofs.by_case.set_step.Goals as goal
 
 pub unknown_bounds-bounds-requires : goal.unknown_bounds-bounds-requires

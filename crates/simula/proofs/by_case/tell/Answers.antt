@@ -1,6 +1,4 @@
 use Rattle.simulation_laws.specs.PublicLaws.{query_as}
-use borrow.Author.Rules.{rules}
-use native.Mathlib.Omega.{arith}
 use Rattle.simula.proofs.by_case.tell.Goals as goal
 
 pub returns-in-First : goal.returns-in-First

@@ -1,5 +1,4 @@
 use Rattle.simset_laws.proofs.UnknownBounds.{covers_unknown}
-use borrow.Author.Rules.{rules}
 use Rattle.simula.proofs.by_case.wait.Goals as goal
 
 pub unknown_bounds-bounds-requires : goal.unknown_bounds-bounds-requires

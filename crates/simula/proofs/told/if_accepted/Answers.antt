@@ -1,8 +1,6 @@
 use mathlib.Core.Path.{sym, ap}
 use Rattle.model.specs.declared.answer.Answer.{Answer}
 use Rattle.model_laws.specs.Called.{if_accepted}
-use borrow.Author.Rules.{rules}
-use native.Mathlib.Omega.{arith}
 use Rattle.simula.proofs.told.if_accepted.Goals as goal
 
 pub returns-in-Done : goal.returns-in-Done

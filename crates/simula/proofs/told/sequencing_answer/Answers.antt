@@ -1,6 +1,4 @@
 use Rattle.simulation_laws.specs.PublicLaws.{call_telling}
-use borrow.Author.Rules.{rules}
-use native.Mathlib.Omega.{arith}
 use Rattle.simula.proofs.told.sequencing_answer.Goals as goal
 
 pub returns : goal.returns

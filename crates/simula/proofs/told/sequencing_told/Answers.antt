@@ -1,7 +1,5 @@
 use mathlib.Core.Path.{refl}
 use Rattle.simulation_laws.specs.PublicLaws.{told_as}
-use borrow.Author.Rules.{rules}
-use native.Mathlib.Omega.{arith}
 use Rattle.simula.proofs.told.sequencing_told.Goals as goal
 
 pub returns-in-Hold : goal.returns-in-Hold

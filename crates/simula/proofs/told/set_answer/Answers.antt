@@ -1,6 +1,4 @@
 use Rattle.simset_laws.specs.Promise.{moved_telling}
-use borrow.Author.Rules.{rules}
-use native.Mathlib.Omega.{arith}
 use Rattle.simula.proofs.told.set_answer.Goals as goal
 
 pub returns : goal.returns

@@ -1,6 +1,4 @@
 use Rattle.simset_laws.specs.Promise.{told_as}
-use borrow.Author.Rules.{rules}
-use native.Mathlib.Omega.{arith}
 use Rattle.simula.proofs.told.set_told.Goals as goal
 
 pub returns-in-Out : goal.returns-in-Out

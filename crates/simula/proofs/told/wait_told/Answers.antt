@@ -1,6 +1,5 @@
 use Rattle.simulation_laws.specs.ReadPromise.{wait_told_lem}
 use Rattle.simulation_laws.specs.StepPromise.{first_low}
-use borrow.Author.Rules.{rules}
 use native.Mathlib.Omega.{arith}
 use Rattle.simula.proofs.told.wait_told.Goals as goal
 

@@ -1,6 +1,5 @@
 use Rattle.simulation_laws.specs.ReadPromise.{current_told_lem}
 use Rattle.simulation_laws.specs.StepPromise.{first_low}
-use borrow.Author.Rules.{rules}
 use native.Mathlib.Omega.{arith}
 use Rattle.simula_queries.proofs.on_axis.current.Goals as goal
 

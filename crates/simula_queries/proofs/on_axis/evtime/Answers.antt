@@ -1,7 +1,6 @@
 use Rattle.simulation_laws.specs.ReadPromise.{is_in, evtime_idle, evtime_some}
 use Rattle.simset_laws.specs.Promise.{told_not, failed, passed}
 use Rattle.simulation_laws.specs.Calls.{evtime_told}
-use borrow.Author.Rules.{rules}
 use native.Mathlib.Omega.{arith}
 use Rattle.std.proofs.Common.{ap, not}
 use Rattle.simula_queries.proofs.on_axis.evtime.Goals as goal

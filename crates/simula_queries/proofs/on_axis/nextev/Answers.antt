@@ -3,7 +3,6 @@ use mathlib.Core.Path.{ap}
 use Rattle.simulation_laws.specs.ReadPromise.{is_in, nextev_idle, nextev_last, nextev_next}
 use Rattle.simset_laws.specs.Promise.{told_not, failed, passed}
 use Rattle.simulation_laws.specs.Calls.{nextev_told}
-use borrow.Author.Rules.{rules}
 use native.Mathlib.Omega.{arith}
 use Rattle.std.proofs.Common.{not}
 use Rattle.simula_queries.proofs.on_axis.nextev.Goals as goal

@@ -1,6 +1,5 @@
 use Rattle.simset_laws.specs.Promise.{told_not, told, failed, passed}
 use Rattle.simulation_laws.specs.Calls.{terminated_told}
-use borrow.Author.Rules.{rules}
 use Rattle.std.proofs.Common.{ap, not}
 use Rattle.simula_queries.proofs.on_axis.terminated.Goals as goal
 

@@ -1,5 +1,4 @@
 use Rattle.simulation_laws.specs.ReadPromise.{time_told_lem}
-use borrow.Author.Rules.{rules}
 use Rattle.simula_queries.proofs.on_axis.time.Goals as goal
 
 pub first-requires : goal.first-requires

@@ -1,6 +1,5 @@
 use Rattle.simset_laws.specs.Promise.{link_in, failed, passed, told_not, told}
 use Rattle.simset_laws.specs.Told.{head_told}
-use borrow.Author.Rules.{rules}
 use native.Mathlib.Omega.{arith}
 use Rattle.std.proofs.Common.{ap, not}
 use Rattle.simula_queries.proofs.on_links.head.Goals as goal

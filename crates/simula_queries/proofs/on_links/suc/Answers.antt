@@ -1,7 +1,5 @@
-use Rattle.simset_laws.specs.Promise.{linkage_in, failed, passed, told_not, told}
+use Rattle.simset_laws.specs.Promise.{failed, passed, told_not, told}
 use Rattle.simset_laws.specs.Calls.{suc_told}
-use borrow.Author.Rules.{rules}
-use native.Mathlib.Omega.{arith}
 use Rattle.std.proofs.Common.{ap, not}
 use Rattle.simula_queries.proofs.on_links.suc.Goals as goal
 

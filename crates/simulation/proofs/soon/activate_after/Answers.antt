@@ -2,7 +2,6 @@ use Rattle.simulation_laws.specs.Sign.{above_passed}
 use Rattle.simulation_laws.specs.StepPromise.{process_in}
 use Rattle.simset_laws.specs.Promise.{passed}
 use Rattle.simulation.proofs.ByFirst.{soon_3, soon_0}
-use borrow.Author.Rules.{rules}
 use native.Mathlib.Omega.{arith}
 use Rattle.std.proofs.Common.{ap, not}
 use Rattle.simulation.proofs.soon.activate_after.Goals as goal

@@ -1,7 +1,6 @@
 use mathlib.Core.Path.{refl}
 use Rattle.simulation_procedures.proofs.Chained.{vain_0}
 use Rattle.simulation.proofs.ByFirst.{late_5, late_0}
-use borrow.Author.Rules.{rules}
 use native.Mathlib.Omega.{arith}
 use Rattle.simulation.proofs.soon.delayed.Goals as goal
 

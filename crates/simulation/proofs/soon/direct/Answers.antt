@@ -1,6 +1,5 @@
 use Rattle.simulation_procedures.proofs.Chained.{vain_0}
 use Rattle.simulation.proofs.ByFirst.{active_now}
-use borrow.Author.Rules.{rules}
 use native.Mathlib.Omega.{arith}
 use Rattle.simulation.proofs.soon.direct.Goals as goal
 

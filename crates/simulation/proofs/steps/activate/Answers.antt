@@ -2,7 +2,6 @@ use Rattle.simulation_laws.specs.Sign.{above_passed}
 use Rattle.simset_laws.specs.Promise.{failed, passed}
 use Rattle.simulation_laws.specs.Calls.{timed_step}
 use Rattle.simulation_laws.specs.StepPromise.{clause_in, x_in, y_in, refused_3, passed_3}
-use borrow.Author.Rules.{rules}
 use native.Mathlib.Omega.{arith}
 use Rattle.std.proofs.Common.{ap, not}
 use Rattle.simulation.proofs.steps.activate.Goals as goal

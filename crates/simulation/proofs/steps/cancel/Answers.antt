@@ -1,7 +1,6 @@
 use Rattle.simset_laws.specs.Promise.{failed, passed}
 use Rattle.simulation_laws.specs.Calls.{cancel_step}
 use Rattle.simulation_laws.specs.StepPromise.{process_in, refused_3, passed_3}
-use borrow.Author.Rules.{rules}
 use native.Mathlib.Omega.{arith}
 use Rattle.std.proofs.Common.{ap, not}
 use Rattle.simulation.proofs.steps.cancel.Goals as goal

@@ -1,5 +1,4 @@
 use Rattle.simulation_laws.specs.StepPromise.{finish_main, finish_other}
-use borrow.Author.Rules.{rules}
 use Rattle.simulation.proofs.steps.finish.Goals as goal
 
 pub first-f-requires : goal.first-f-requires

@@ -1,6 +1,5 @@
 use Rattle.simulation_laws.specs.Sign.{above_passed}
 use Rattle.simulation_laws.specs.Calls.{hold_step}
-use borrow.Author.Rules.{rules}
 use Rattle.simulation.proofs.steps.hold_now.Goals as goal
 
 pub hold_first-requires : goal.hold_first-requires

@@ -1,5 +1,4 @@
 use Rattle.simulation_laws.specs.StepPromise.{need_clause, need_x, need_plain, need_y}
-use borrow.Author.Rules.{rules}
 use Rattle.std.proofs.Common.{ap, not}
 use Rattle.simulation.proofs.steps.parties_fine.Goals as goal
 

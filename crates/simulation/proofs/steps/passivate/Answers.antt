@@ -1,5 +1,4 @@
 use Rattle.simulation_laws.specs.Calls.{passivate_step}
-use borrow.Author.Rules.{rules}
 use Rattle.simulation.proofs.steps.passivate.Goals as goal
 
 pub passivate-requires : goal.passivate-requires

@@ -3,7 +3,6 @@ use Rattle.simset_laws.specs.Promise.{failed, passed, none_or, head_in, link_in,
 use Rattle.simulation_laws.specs.StepPromise.{first_low}
 use Rattle.simulation_laws.specs.WaitPromise.{place_at, lone_at, left_at, current_link}
 use Rattle.simulation_laws.proofs.WaitPromise.{wait_3, wait_10, wait_4, wait_0}
-use borrow.Author.Rules.{rules}
 use native.Mathlib.Omega.{arith}
 use Rattle.std.proofs.Common.{ap, not}
 use Rattle.simulation.proofs.steps.wait.Goals as goal

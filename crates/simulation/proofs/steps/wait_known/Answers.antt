@@ -3,7 +3,6 @@ use Rattle.simulation_laws.specs.Promise.{first_at_lem}
 use Rattle.simset_laws.specs.Promise.{link_in, preceded_at, party_fine}
 use Rattle.simulation_laws.specs.StepPromise.{first_low}
 use Rattle.simulation_laws.specs.WaitPromise.{place_at, lone_at, left_at, made_4, made_0, current_link}
-use borrow.Author.Rules.{rules}
 use native.Mathlib.Omega.{arith}
 use Rattle.simulation.proofs.steps.wait_known.Goals as goal
 

@@ -1,5 +1,4 @@
 use borrow.Author.Tests.{le-leb, lt-leb}
-use borrow.Author.Rules.{rules}
 use Rattle.simulation.proofs.steps.y_place.Goals as goal
 
 pub returns-then-clause-lt5 : goal.returns-then-clause-lt5

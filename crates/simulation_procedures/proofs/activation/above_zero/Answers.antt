@@ -1,4 +1,4 @@
-use Rattle.simulation_laws.specs.Sign.{above_none, above_cast, above_is}
+use Rattle.simulation_laws.specs.Sign.{above_none, above_is}
 use Rattle.simulation_procedures.proofs.activation.above_zero.Goals as goal
 
 pub returns-then-t-lt0 : goal.returns-then-t-lt0

@@ -1,4 +1,3 @@
-use borrow.Author.Rules.{rules}
 use Rattle.simulation_procedures.proofs.Chained.{vain_0, active_5, active_idle, active_0}
 use Rattle.simulation_procedures.proofs.activation.activate.Goals as goal
 

@@ -1,4 +1,3 @@
-use borrow.Author.Rules.{rules}
 use Rattle.simulation_procedures.proofs.Arms.{beside_not, beside_test}
 use Rattle.simulation_procedures.proofs.activation.beside_idle.Goals as goal
 

@@ -1,4 +1,3 @@
-use borrow.Author.Rules.{rules}
 use Rattle.simulation_procedures.proofs.Arms.{due_direct, due_beside, due_two, due_four, due_early, due_late}
 use Rattle.simulation_procedures.proofs.activation.due_at.Goals as goal
 

@@ -1,5 +1,3 @@
-use borrow.Author.Rules.{rules}
-use borrow.Author.Tests.{not-true, not-false}
 use Rattle.simulation_procedures.proofs.Arms.{vain_none, vain_marked, vain_idle, vain_busy, vain_timed, vain_beside}
 use Rattle.simulation_procedures.proofs.activation.is_vain.Goals as goal
 

@@ -1,4 +1,3 @@
-use borrow.Author.Rules.{rules}
 use native.Mathlib.Omega.{arith}
 use Rattle.simulation_procedures.proofs.Chained.{place_5, place_6, place_at, place_behind, place_now, place_front}
 use Rattle.simulation_procedures.proofs.activation.place_for.Goals as goal

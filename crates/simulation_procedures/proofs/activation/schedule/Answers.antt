@@ -1,4 +1,3 @@
-use borrow.Author.Rules.{rules}
 use Rattle.simulation_procedures.proofs.Chained.{scheduled_by}
 use Rattle.simulation_procedures.proofs.activation.schedule.Goals as goal
 

@@ -1,4 +1,3 @@
-use borrow.Author.Rules.{rules}
 use Rattle.simulation_procedures.proofs.Chained.{dropped_by}
 use Rattle.simulation_procedures.proofs.axis.drop.Goals as goal
 

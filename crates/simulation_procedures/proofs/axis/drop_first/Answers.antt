@@ -1,6 +1,5 @@
 use mathlib.Core.Path.{sym, ◌∙◌}
 use Rattle.simulation_procedures.proofs.Chained.{dropped_by}
-use borrow.Author.Rules.{rules}
 use native.Mathlib.Omega.{arith}
 use Rattle.simulation_procedures.proofs.axis.drop_first.Goals as goal
 

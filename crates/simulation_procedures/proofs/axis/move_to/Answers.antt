@@ -1,5 +1,4 @@
 use Rattle.simulation_procedures.proofs.Chained.{moved_by, put_by}
-use borrow.Author.Rules.{rules}
 use native.Mathlib.Omega.{arith}
 use Rattle.simulation_procedures.proofs.axis.move_to.Goals as goal
 

@@ -1,4 +1,3 @@
-use borrow.Author.Rules.{rules}
 use native.Mathlib.Omega.{arith}
 use Rattle.simulation_laws.specs.Promise.{capped_fine, capped_over}
 use mathlib.Core.Path.{sym}

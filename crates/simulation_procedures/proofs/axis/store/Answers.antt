@@ -1,4 +1,3 @@
-use borrow.Author.Rules.{rules}
 use Rattle.simulation_laws.specs.Promise.{stored_past}
 use Rattle.simulation_procedures.proofs.axis.store.Goals as goal
 

@@ -1,4 +1,3 @@
-use borrow.Author.Rules.{rules}
 use Rattle.simulation_procedures.proofs.Chained.{cancel_idle, cancel_4, cancel_0}
 use Rattle.simulation_procedures.proofs.procedures.cancel.Goals as goal
 

@@ -2,7 +2,6 @@ use mathlib.Core.Path.{◌∙◌, ap}
 use lib.ListN.{get_or}
 use Prim.Native.Nat.{ℕ}
 use Rattle.simulation_procedures.proofs.Chained.{hold_5}
-use borrow.Author.Rules.{rules}
 use native.Mathlib.Omega.{arith}
 use Rattle.simulation_procedures.proofs.procedures.hold.Goals as goal
 

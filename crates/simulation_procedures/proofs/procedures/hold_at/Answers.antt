@@ -1,5 +1,4 @@
 use native.Mathlib.Omega.{arith}
-use borrow.Author.Rules.{rules}
 use Rattle.simulation_procedures.proofs.Chained.{held_last, held_soon, held_moved}
 use Rattle.simulation_procedures.proofs.procedures.hold_at.Goals as goal
 

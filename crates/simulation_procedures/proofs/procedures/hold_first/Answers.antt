@@ -1,7 +1,6 @@
 use mathlib.Core.Path.{refl}
 use Rattle.simulation_laws.specs.Promise.{first_at_lem}
 use Rattle.simulation_procedures.proofs.Chained.{hold_5, hold_0}
-use borrow.Author.Rules.{rules}
 use native.Mathlib.Omega.{arith}
 use Rattle.simulation_procedures.proofs.procedures.hold_first.Goals as goal
 

@@ -1,5 +1,4 @@
 use Rattle.simulation_laws.specs.Promise.{first_at_lem}
-use borrow.Author.Rules.{rules}
 use Rattle.simulation_procedures.proofs.Chained.{passive_4, passive_0}
 use Rattle.simulation_procedures.proofs.procedures.passivate.Goals as goal
 

@@ -1,8 +1,5 @@
 use Rattle.trace.specs.Put.{set4}
 use Rattle.trace.specs.Lines.{bytes4}
-use lib.ListN.{length-set}
-use borrow.Author.Rules.{rules}
-use native.Mathlib.Omega.{arith}
 use Rattle.trace.proofs.bytes.put_u32.Goals as goal
 
 pub returns : goal.returns

@@ -3,7 +3,6 @@ use Rattle.trace.specs.Lines.{put, bytes4, bytes8}
 use mathlib.Core.Path.{◌∙◌, ap}
 use mathlib.Core.List.{List}
 use Prim.Native.Nat.{ℕ, ◌+◌, ◌/◌, ◌%◌}
-use borrow.Author.Rules.{rules}
 use native.Mathlib.Omega.{arith}
 use Rattle.trace.proofs.bytes.put_u64.Goals as goal
 
