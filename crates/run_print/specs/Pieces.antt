@@ -1,8 +1,10 @@
 -- A piece of a run: one call with the first bytes of the trace buffer. What it leaves, and what the program needs of that.
-use Rattle.std.specs.Prelude.{ℕ, ◌*◌, ◌≤◌, ◌<◌, ◌≡◌, refl, List, length, take}
+use Rattle.std.specs.Prelude.{ℕ, ◌*◌, ◌≤◌, ◌<◌, ◌≡◌, refl, List, length, take, zero, suc, ◌-◌, ◌^◌}
 use Rattle.std.proofs.Common.{sym, arith}
 use Rattle.std.proofs.Math.Path.{ap, subst}
 use Rattle.std.proofs.Math.Seq.{length-take-le}
+use Rattle.std.proofs.Math.Numerals.{unary_clauses}
+use Rattle.ring_laws.specs.Lists.{below}
 use Rattle.model.specs.declared.Counts.{Counts}
 use Rattle.model_laws.specs.Now.{half, first_of}
 use Rattle.simulation_laws.specs.Promise.{Judged}
@@ -55,3 +57,23 @@ stands_located c bytes u s =
       judged = its_judged c bytes u s;
       first_in_lem = in_positions c bytes u s (first_of (half c) u.model.axis) refl;
     }
+
+-- ---- a number of 64 bits has at most 20 digits
+
+above : (m : ℕ) → 20 ≤ m → 18446744073709551616 ≤ 10 ^ m
+above zero h = omega arith
+above (suc m) h =
+    let e : 10 ^ suc m ≡ 10 * 10 ^ m = simp unary_clauses (omega arith) in
+    below 19 m
+    (λ l. omega (arith, e, above m l))
+    (λ l. let q : 19 ≡ m = omega arith in subst (λ (k : ℕ). 18446744073709551616 ≤ 10 ^ suc k) q (omega arith))
+
+-- k is the fewest digits of n: it is below 10 ^ k, and has no digit less
+pub few_digits : (n k : ℕ) → n < 18446744073709551616 → (1 ≤ k) × (n < 10 ^ k) × (1 < k → 10 ^ (k - 1) ≤ n) → k ≤ 20
+few_digits n k s f =
+    below 20 k
+    (λ l. absurd (no (f.2 (omega arith)) (above (k - 1) (omega arith))))
+    (λ l. l)
+  where
+    no : 10 ^ (k - 1) ≤ n → 18446744073709551616 ≤ 10 ^ (k - 1) → ⊥
+    no a b = omega arith

@@ -2,7 +2,6 @@ use Rattle.run_laws.specs.Arrays.{links_in, axis_in, one_in, links_part, axis_pa
 use Rattle.host.specs.Host.{host_8, host_long, host_run}
 use Rattle.run_laws.specs.Run.{RanOn}
 use mathlib.Core.Path.{sym, ap, ◌∙◌}
-use borrow.Author.Rules.{rules}
 use Rattle.host.proofs.nodbrize_run.Goals as goal
 
 pub returns-then-trace-gt-TRACE_LIMIT : goal.returns-then-trace-gt-TRACE_LIMIT

@@ -1,7 +1,6 @@
 use Rattle.run_laws.specs.RunIs as is
 use mathlib.Core.Path.{sym, ◌∙◌}
 use Rattle.run_laws.specs.Run.{lent}
-use borrow.Author.Rules.{rules}
 use Rattle.run.proofs.run.Goals as goal
 
 pub run_accepted-requires : goal.run_accepted-requires

@@ -2,7 +2,6 @@ use Rattle.run_laws.specs.Judging.{fine_standing}
 use Rattle.run_laws.specs.RunIs.{run_judged_lem, run_turns}
 use mathlib.Core.Path.{sym, ◌∙◌}
 use Rattle.run_laws.specs.Run.{lent}
-use borrow.Author.Rules.{rules}
 use Rattle.run.proofs.run_accepted.Goals as goal
 
 pub turns-requires : goal.turns-requires

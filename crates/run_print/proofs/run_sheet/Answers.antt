@@ -1,5 +1,4 @@
 use mathlib.Core.Path.{sym, ◌∙◌}
-use borrow.Author.Rules.{rules}
 use Rattle.run_print.proofs.run_sheet.Goals as goal
 
 pub show-requires : goal.show-requires

@@ -1,4 +1,3 @@
-use borrow.Author.Rules.{rules}
 use Rattle.calls.proofs.OneLine.{line_there}
 use Rattle.calls.proofs.answer.answer.Goals as goal
 

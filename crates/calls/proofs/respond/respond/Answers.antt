@@ -1,9 +1,5 @@
 use Prim.Native.Nat.{◌*◌}
-use mathlib.Core.Path.{sym}
-use lib.IntN.{pos}
-use Rattle.run_laws.specs.Parts.{part_length}
 use Rattle.calls.proofs.Parts.{model_parts, run_parts}
-use borrow.Author.Rules.{rules}
 use native.Mathlib.Omega.{arith}
 use Rattle.calls.proofs.respond.respond.Goals as goal
 

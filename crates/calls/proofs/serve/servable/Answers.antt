@@ -1,7 +1,5 @@
 use mathlib.Core.Path.{sym, subst}
 use lib.Dec.{T}
-use borrow.Author.Tests.{not-false}
-use borrow.Author.Rules.{rules}
 use Rattle.calls.proofs.serve.servable.Goals as goal
 
 pub returns-then-not-exists : goal.returns-then-not-exists

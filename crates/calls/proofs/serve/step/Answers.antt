@@ -1,5 +1,3 @@
-use borrow.Author.Tests.{not-false}
-use borrow.Author.Rules.{rules}
 use native.Mathlib.Omega.{arith}
 use Rattle.calls.proofs.serve.step.Goals as goal
 

@@ -1,5 +1,4 @@
 use mathlib.Core.Path.{sym, ◌∙◌}
-use borrow.Author.Rules.{rules}
 use Rattle.calls.proofs.turn_call.made.Goals as goal
 
 pub by_turn-requires-clause-sheet_value : goal.by_turn-requires-clause-sheet_value

@@ -1,6 +1,5 @@
 use Rattle.run_laws.specs.Starting.{filled_standing, started_is}
 use Rattle.run_laws.specs.Run.{lent}
-use borrow.Author.Rules.{rules}
 use Rattle.host.proofs.start.start.Goals as goal
 
 pub fill-requires : goal.fill-requires

@@ -1,7 +1,6 @@
 use Rattle.run_laws.specs.Filling.{filled_8, filled_accepted}
 use mathlib.Core.Path.{sym, ◌∙◌}
 use Rattle.run_laws.specs.Run.{lent}
-use borrow.Author.Rules.{rules}
 use Rattle.run.proofs.fresh.fresh_run.Goals as goal
 
 pub fill-requires : goal.fill-requires

@@ -1,6 +1,3 @@
-use mathlib.Core.Path.{sym}
-use lib.Seq.{length-take-le}
-use borrow.Author.Rules.{rules}
 use Rattle.run_print.specs.Pieces.{left_is}
 use Rattle.run_print.proofs.piece.piece.Goals as goal
 

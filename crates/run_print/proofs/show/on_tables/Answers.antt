@@ -1,5 +1,4 @@
 use Rattle.run_laws.specs.GoesOn.{fresh_stands_on}
-use borrow.Author.Rules.{rules}
 use Rattle.run_print.proofs.show.on_tables.Goals as goal
 
 pub pieces-requires-clause-standing : goal.pieces-requires-clause-standing

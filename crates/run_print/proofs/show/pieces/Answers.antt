@@ -1,10 +1,6 @@
-use lib.ListN.{length}
-use mathlib.Core.Path.{◌≡◌, refl, sym, ◌∙◌, subst}
-use Prim.Native.Nat.{ℕ, ◌*◌, ◌≤◌, ◌-◌}
-use borrow.Author.Rules.{rules}
+use mathlib.Core.Path.{refl, sym, ◌∙◌, subst}
+use Prim.Native.Nat.{ℕ, ◌*◌, ◌≤◌}
 use native.Mathlib.Omega.{arith}
-use Rattle.run_laws.specs.Run.{lent}
-use Rattle.run_laws.specs.Standing.{Standing}
 use Rattle.run_print.specs.Pieces.{left_stands, left_room, stands_located}
 use Rattle.run_print.proofs.show.pieces.Goals as goal
 

@@ -1,7 +1,6 @@
 use mathlib.Core.Path.{ap, ◌∙◌}
 use Prim.Native.Nat.{ℕ}
 use lib.ListN.{get_or}
-use borrow.Author.Rules.{rules}
 use Rattle.run_print.proofs.show.record_now.Goals as goal
 
 pub place_now-f-requires : goal.place_now-f-requires

@@ -1,7 +1,6 @@
 use Prim.Native.Nat.{ℕ}
 use lib.ListN.{length-replicate}
 use Rattle.run_laws.specs.Arrays.{links_in, axis_in, one_in, links_part, axis_part, one_part, lent_startable}
-use borrow.Author.Rules.{rules}
 use native.Mathlib.Omega.{arith}
 use Rattle.run_print.proofs.show.show.Goals as goal
 
