@@ -12,7 +12,7 @@ HOLDS = {
     "ring": "two-way rings in a table: their laws, the code that links and unlinks, the judge of rings",
     "model": "a model's counts, the kinds of numbers and the refusals; what lent tables spell, their judge, the fresh model",
     "sheet": "model sheets: what their bytes say, which are accepted, the layout check",
-    "axis": "the time axis with one entry for each tick: its table, the procedures on it, their laws",
+    "axis": "notices in a list and the ring that spells them; an axis with one entry for each tick, its table, procedures and laws",
     "simset": "chapter 14's set procedures on a table of links",
     "simulation": "chapter 14's sequencing procedures, on lists of notices and on tables",
     "accum": "the update of an accumulator, and the public calls of accum",
