@@ -1,3 +1,4 @@
+use Rattle.std.proofs.Common.{rules}
 use Rattle.simulation_laws.specs.PublicLaws.{query_as}
 use Rattle.simula.proofs.by_case.tell.Goals as goal
 
@@ -8,7 +9,7 @@ pub returns-in-Last : goal.returns-in-Last
 returns-in-Last c = query_as _ _ _ _ _ c.in-Last.is c.last.ensures
 
 pub returns-in-Suc : goal.returns-in-Suc
-returns-in-Suc c = query_as _ _ _ _ _ c.in-Suc.is c.suc.ensures
+returns-in-Suc c = query_as _ _ _ _ _ c.in-Suc.is (search rules)
 
 pub returns-in-Pred : goal.returns-in-Pred
 returns-in-Pred c = query_as _ _ _ _ _ c.in-Pred.is c.pred.ensures
