@@ -1,11 +1,10 @@
 -- Accumulators as structs and the same as words: a copy from the one list to the other, one accumulator after the other, and accum in both.
-use Rattle.std.specs.Prelude.{ℕ, ◌≡◌, Bool, true, false, not, List, length, ℤ}
+use Rattle.std.specs.Prelude.{ℕ, ◌≡◌, Bool, true, false, not, List, length, ℤ, Err}
 use Rattle.std.proofs.Common.{sym, ap, ◌∙◌, arith}
 use borrow.Author.Tests.{not-true}
 use Rattle.model.specs.declared.Counts.{Counts}
 use Rattle.model.specs.declared.Refusal.TheVariants.{Size}
-use Rattle.model.specs.declared.answer.Answer.{Answer}
-use Rattle.model.specs.declared.answer.Answer.TheVariants.{Refused as Turned}
+use Rattle.model.specs.Answers.{Answered}
 use Rattle.model_laws.specs.Tables.{Tables}
 use Rattle.accum_laws.specs.declared.Accumulator.{Accumulator}
 use Rattle.accum_laws.specs.Triples.{flat, flat_length, flattened}
@@ -15,7 +14,7 @@ use Rattle.accum_laws.specs.Gather.{listed_within}
 
 module _ (c : Counts) (t : Tables) (n k : ℕ) (d : ℤ) (l : List ℤ) (ok : Bool) (o : ok ≡ list_fine n (length l)) where
   -- words that are not three for each of 1 to 64 accumulators are refused
-  pub listed_size : not ok ≡ true → record { words = l; answer = Turned Size } ≡ accum_listed c t n k d l
+  pub listed_size : not ok ≡ true → record { words = l; answer = Err Size } ≡ accum_listed c t n k d l
   unfolding accum_listed list_judged
   listed_size e = rw (sym o ∙ not-true ok e)
 
@@ -25,7 +24,7 @@ module _ (c : Counts) (t : Tables) (n k : ℕ) (d : ℤ) (l : List ℤ) (ok : Bo
     same_count = omega (arith, flat_length xs, ap (λ (v : List ℤ). length v) q, (listed_within n m (length l) ok o f w).1, w)
 
     -- else accum on structs that are the words answers for the words
-    pub listed_lent : (ys : List Accumulator) (r : Answer) (e : ℤ) → e ≡ d → record { list = ys; answer = r } ≡ accum_at c t k e xs
+    pub listed_lent : (ys : List Accumulator) (r : Answered) (e : ℤ) → e ≡ d → record { list = ys; answer = r } ≡ accum_at c t k e xs
         → (v : List ℤ) → v ≡ flat ys → record { words = v; answer = r } ≡ accum_listed c t n k d l
     listed_lent ys r e x p v z =
         ap (λ (u : List ℤ). record { words = u; answer = r }) z ∙ ap flattened (p ∙ ap (λ (y : ℤ). accum_at c t k y xs) x)

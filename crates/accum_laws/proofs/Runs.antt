@@ -1,20 +1,16 @@
 -- What holds of lists of accumulators: the two forms of a list agree, and in a run that starts with zeros refusal 7 can only come
 -- from c + d.
-use Rattle.std.specs.Prelude.{ℕ, ◌-◌, ◌≤◌, ◌<◌, ◌≡◌, refl, Bool, true, false, List, length, get_or, ℤ, nat_abs, ◌+ℤ◌}
+use Rattle.std.specs.Prelude.{ℕ, ◌-◌, ◌≤◌, ◌<◌, ◌≡◌, refl, Bool, true, false, List, length, get_or, ℤ, nat_abs, ◌+ℤ◌, Ok, Err}
 use Rattle.std.proofs.Common.{ap, ◌∙◌}
 use Rattle.ring_laws.specs.Lists.{clash}
 use Rattle.model.specs.declared.Counts.{Counts}
 use Rattle.model.specs.declared.Refusal.{Refusal}
 use Rattle.model.specs.declared.Refusal.TheVariants.{Accumulator as NotAsRequired}
-use Rattle.model.specs.declared.answer.Answer.TheVariants.{Refused as Turned}
-use Rattle.model.specs.declared.verdict.Verdict.{Verdict}
-use Rattle.model.specs.declared.verdict.Verdict.TheVariants.{Fine, Refused as Judged}
+use Rattle.model.specs.Answers.{Verdict}
 use Rattle.model_laws.specs.Tables.{Tables}
 use Rattle.model_laws.specs.Now.{half, time_of}
 use Rattle.accum_laws.specs.declared.Accumulator.{Accumulator}
-use Rattle.accum_laws.specs.declared.Updated.{Updated}
-use Rattle.accum_laws.specs.declared.Updated.TheVariants.{To, Refused}
-use Rattle.accum_laws.specs.Update.{updated_of}
+use Rattle.accum_laws.specs.Update.{Updated, updated_of}
 use Rattle.accum_laws.specs.Keeps.{zero_accumulator, required_later}
 use Rattle.accum_laws.proofs.Keeps.{accepted_required, refused_rate}
 use Rattle.accum_laws.specs.Flat.{updated_in}
@@ -34,8 +30,8 @@ listed_flat c t k d l =
   where
     go : (v : Verdict) → changing v (flat l) (updated_in k (time_of (half c) t.axis t.times) d (flat l))
         ≡ flattened (listing v l (updated_at k (time_of (half c) t.axis t.times) d l))
-    go Fine = flat_updated k (time_of (half c) t.axis t.times) d l
-    go (Judged r) = refl
+    go (Ok tt) = flat_updated k (time_of (half c) t.axis t.times) d l
+    go (Err r) = refl
 
 -- accum at a time that is no earlier keeps all as required
 pub each_kept : (k t u : ℕ) (d : ℤ) (l : List Accumulator) → t ≤ u → Each l t → Each (updated_at k u d l).list u
@@ -46,18 +42,18 @@ each_kept k t u d l b a = go (updated_of (numbered k l) u d) refl
     later i = required_later (get_or l i zero_accumulator) t u b (a i)
 
     go : (w : Updated) → updated_of (numbered k l) u d ≡ w → Each (list_after w k l).list u
-    go (To v) e = set_each l (k - 1) v u later (accepted_required (numbered k l) u d v e)
-    go (Refused q) e = later
+    go (Ok v) e = set_each l (k - 1) v u later (accepted_required (numbered k l) u d v e)
+    go (Err q) e = later
 
 -- and refusal 7 then says that c + d would pass
-pub each_refused : (k t : ℕ) (d : ℤ) (l : List Accumulator) → Each l t → (updated_at k t d l).answer ≡ Turned NotAsRequired
+pub each_refused : (k t : ℕ) (d : ℤ) (l : List Accumulator) → Each l t → (updated_at k t d l).answer ≡ Err NotAsRequired
     → 1000000 < nat_abs ((numbered k l).c +ℤ d)
 unfolding updated_at
 each_refused k t d l a = go (updated_of (numbered k l) t d) refl
   where
-    go : (w : Updated) → updated_of (numbered k l) t d ≡ w → (list_after w k l).answer ≡ Turned NotAsRequired
+    go : (w : Updated) → updated_of (numbered k l) t d ≡ w → (list_after w k l).answer ≡ Err NotAsRequired
         → 1000000 < nat_abs ((numbered k l).c +ℤ d)
-    go (To v) e q = let z : false ≡ true = cc in clash z
-    go (Refused r) e q =
+    go (Ok v) e q = let z : false ≡ true = cc in clash z
+    go (Err r) e q =
         let z : r ≡ NotAsRequired = cc in
-        refused_rate (numbered k l) t d (a (k - 1)) (e ∙ ap (λ (w : Refusal). Refused w) z)
+        refused_rate (numbered k l) t d (a (k - 1)) (e ∙ ap (λ (w : Refusal). Err w) z)

@@ -1,18 +1,16 @@
 -- Accumulators in a flat list of words, three for each: number k, from 1, at 3 × (k − 1).
-use Rattle.std.specs.Prelude.{ℕ, ◌+◌, ◌-◌, ◌*◌, ◌≤◌, ◌<◌, ◌≡◌, refl, ◌⊎◌, length, get_or, set, ℤ, pos}
+use Rattle.std.specs.Prelude.{ℕ, ◌+◌, ◌-◌, ◌*◌, ◌≤◌, ◌<◌, ◌≡◌, refl, ◌⊎◌, length, get_or, set, ℤ, pos, Ok, Err}
 use Rattle.std.proofs.Common.{◌∙◌, inl, inr, arith, length-set, get_or-set_other}
 use mathlib.Core.List.{List}
-use Rattle.model.specs.declared.answer.Answer.{Answer}
-use Rattle.model.specs.declared.answer.Answer.TheVariants.{Done, Refused as Turned}
+use Rattle.model.specs.Answers.{Answered}
+use Rattle.model.specs.declared.answer.Answer.TheVariants.{Done}
 use Rattle.accum_laws.specs.declared.Accumulator.{Accumulator}
-use Rattle.accum_laws.specs.declared.Updated.{Updated}
-use Rattle.accum_laws.specs.declared.Updated.TheVariants.{To, Refused}
-use Rattle.accum_laws.specs.Update.{updated_of}
+use Rattle.accum_laws.specs.Update.{Updated, updated_of}
 
 -- the words after a call, and its answer
 pub record Changed : Type 0 where
   pub words : List ℤ
-  pub answer : Answer
+  pub answer : Answered
 
 -- the accumulator whose words begin at this place, and the words with another one there
 unfoldable pub words_at : ℕ → List ℤ → Accumulator
@@ -27,8 +25,8 @@ word_place k = 3 * (k - 1)
 
 -- a refused update changes nothing
 abbrev pub stored : Updated → ℕ → List ℤ → Changed
-stored (To v) i l = record { words = with_words i v l; answer = Done }
-stored (Refused q) i l = record { words = l; answer = Turned q }
+stored (Ok v) i l = record { words = with_words i v l; answer = Ok Done }
+stored (Err q) i l = record { words = l; answer = Err q }
 
 -- "accum on triple x", in a flat list
 unfoldable pub updated_in : ℕ → ℕ → ℤ → List ℤ → Changed
@@ -58,5 +56,5 @@ unfolding updated_in
 in_other k t d l j o = go (updated_of (words_at (word_place k) l) t d)
   where
     go : (u : Updated) → get_or (stored u (word_place k) l).words j (pos 0) ≡ get_or l j (pos 0)
-    go (To v) = with_other (word_place k) j v l o
-    go (Refused q) = refl
+    go (Ok v) = with_other (word_place k) j v l o
+    go (Err q) = refl

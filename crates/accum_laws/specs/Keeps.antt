@@ -1,12 +1,11 @@
 -- Within what is required nothing overflows, and an accepted update leaves an accumulator that is as required from then on.
-use Rattle.std.specs.Prelude.{ℕ, zero, suc, ◌-◌, ◌*◌, ◌≤◌, ◌<◌, ◌≡◌, refl, true, T, ltb, ℤ, pos, negsuc, nat_abs, ◌+ℤ◌, ◌-ℤ◌, ◌*ℤ◌}
+use Rattle.std.specs.Prelude.{ℕ, zero, suc, ◌-◌, ◌*◌, ◌≤◌, ◌<◌, ◌≡◌, refl, true, T, ltb, ℤ, pos, negsuc, nat_abs, ◌+ℤ◌, ◌-ℤ◌, ◌*ℤ◌, Ok, Err}
 use Rattle.std.proofs.Common.{sym, subst, arith, mul-le-mul, le-leb, ltb→lt, SFits}
 use Rattle.std.specs.Int.Signed.{le_z}
 use Rattle.std.specs.Int.{w64}
 use Rattle.model.specs.Counts.{limit}
 use Rattle.model.specs.declared.Refusal.TheVariants.{Accumulator as NotAsRequired}
 use Rattle.accum_laws.specs.declared.Accumulator.{Accumulator}
-use Rattle.accum_laws.specs.declared.Updated.TheVariants.{To, Refused}
 use Rattle.accum_laws.specs.Signed.{abs_add, abs_mul, by_test, fits_abs}
 use Rattle.accum_laws.specs.Update.{may_update, grown_of, updated_of, Required, May}
 
@@ -67,10 +66,10 @@ pub zeros_required : (t : ℕ) → Required zero_accumulator t
 zeros_required t = record { since = refl; past = omega arith; sum_in = omega arith; rate_in = omega arith }
 
 -- the papers' example of 7, c = 1,000,000 and d = 1; and 3 a tick from 2 to 7, then 4 less
-seven : updated_of (record { a = pos 0; b = pos 0; c = pos 1000000 }) 0 (pos 1) ≡ Refused NotAsRequired
+seven : updated_of (record { a = pos 0; b = pos 0; c = pos 1000000 }) 0 (pos 1) ≡ Err NotAsRequired
 unfolding updated_of may_update
 seven = refl
 
-three_a_tick : updated_of (record { a = pos 10; b = pos 2; c = pos 3 }) 7 (negsuc 3) ≡ To (record { a = pos 25; b = pos 7; c = negsuc 0 })
+three_a_tick : updated_of (record { a = pos 10; b = pos 2; c = pos 3 }) 7 (negsuc 3) ≡ Ok (record { a = pos 25; b = pos 7; c = negsuc 0 })
 unfolding updated_of may_update grown_of
 three_a_tick = refl

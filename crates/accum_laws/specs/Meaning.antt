@@ -1,7 +1,7 @@
 -- What the calls of accum mean, for every well-formed model: the update at the model's time, by value, on a number of a flat list, and on
 -- a number of a list of structs; 1 exactly for a list that is not as said, 3 exactly for a number that is not in it. And on any tables a
 -- refused call changes no word.
-use Rattle.std.specs.Prelude.{ℕ, ◌≡◌, Bool, List, ℤ, length, if◌then◌else◌}
+use Rattle.std.specs.Prelude.{ℕ, ◌≡◌, Bool, List, ℤ, length, if◌then◌else◌, Ok, Err}
 use Rattle.std.proofs.Math.Path.{refl, ap}
 use Rattle.std.proofs.Common.{◌∙◌}
 use Rattle.std.proofs.Math.Bool.{true, false}
@@ -9,18 +9,14 @@ use Rattle.ring_laws.specs.Lists.{clash}
 use Rattle.model.specs.declared.Counts.{Counts}
 use Rattle.model.specs.declared.Refusal.{Refusal}
 use Rattle.model.specs.declared.Refusal.TheVariants.{Size, Operand}
-use Rattle.model.specs.declared.answer.Answer.TheVariants.{Refused as Turned}
-use Rattle.model.specs.declared.verdict.Verdict.{Verdict}
-use Rattle.model.specs.declared.verdict.Verdict.TheVariants.{Fine, Refused as Judged}
+use Rattle.model.specs.Answers.{Verdict}
 use Rattle.model_laws.specs.Tables.{Tables, Lists, Sized, Spells}
 use Rattle.model_laws.specs.Judge.{judged}
 use Rattle.model_laws.proofs.Verdict.{judged_says}
 use Rattle.model_laws.specs.Now.{time, half, time_of}
 use Rattle.model_laws.proofs.NowLaws.{time_now}
 use Rattle.accum_laws.specs.declared.Accumulator.{Accumulator}
-use Rattle.accum_laws.specs.declared.Updated.{Updated}
-use Rattle.accum_laws.specs.declared.Updated.TheVariants.{To, Refused}
-use Rattle.accum_laws.specs.Update.{updated_of}
+use Rattle.accum_laws.specs.Update.{Updated, updated_of}
 use Rattle.accum_laws.specs.Flat.{words_at, word_place, stored, updated_in}
 use Rattle.accum_laws.specs.Triples.{numbered, list_after, updated_at}
 use Rattle.accum_laws.specs.Calls.{kept_of, accum_one, keeping, accum_alone, count_fine, list_fine, number_fine, list_judged, changing}
@@ -30,10 +26,10 @@ use Rattle.accum_laws.specs.Calls.{accum_listed, listing, accum_at}
 
 -- refusal 1 of the list, refusal 3 of the number in it, or fine
 abbrev pub list_verdict : Bool → Bool → Verdict
-list_verdict list number = if list then (if number then Fine else Judged Operand) else Judged Size
+list_verdict list number = if list then (if number then (Ok tt) else Err Operand) else Err Size
 
 module _ (c : Counts) (l : Lists) (t : Tables) (w : Sized c t) (s : Spells c l t) where
-  fine : judged c t ≡ Fine
+  fine : judged c t ≡ (Ok tt)
   fine = (judged_says c t).fine w (l, s)
 
   list_is : (list number : Bool) → list_judged list number c t ≡ list_verdict list number
@@ -69,34 +65,34 @@ module _ (c : Counts) (l : Lists) (t : Tables) (w : Sized c t) (s : Spells c l t
 -- ---- any tables: "A refusal returns its number and changes no lent byte"
 
 module _ (c : Counts) (t : Tables) (r : Refusal) where
-  pub alone_kept : (x : Accumulator) (d : ℤ) → (accum_alone c t x d).answer ≡ Turned r → (accum_alone c t x d).value ≡ x
+  pub alone_kept : (x : Accumulator) (d : ℤ) → (accum_alone c t x d).answer ≡ Err r → (accum_alone c t x d).value ≡ x
   unfolding accum_alone accum_one
   alone_kept x d e = go (judged c t) (updated_of x (time_of (half c) t.axis t.times) d) e
     where
-      go : (v : Verdict) (u : Updated) → (keeping v x (kept_of u x)).answer ≡ Turned r → (keeping v x (kept_of u x)).value ≡ x
-      go Fine (To y) q = let z : false ≡ true = cc in clash z
-      go Fine (Refused p) q = refl
-      go (Judged p) u q = refl
+      go : (v : Verdict) (u : Updated) → (keeping v x (kept_of u x)).answer ≡ Err r → (keeping v x (kept_of u x)).value ≡ x
+      go (Ok tt) (Ok y) q = let z : false ≡ true = cc in clash z
+      go (Ok tt) (Err p) q = refl
+      go (Err p) u q = refl
 
-  pub listed_kept : (n k : ℕ) (d : ℤ) (l : List ℤ) → (accum_listed c t n k d l).answer ≡ Turned r → (accum_listed c t n k d l).words ≡ l
+  pub listed_kept : (n k : ℕ) (d : ℤ) (l : List ℤ) → (accum_listed c t n k d l).answer ≡ Err r → (accum_listed c t n k d l).words ≡ l
   unfolding accum_listed updated_in
   listed_kept n k d l e =
       go (list_judged (list_fine n (length l)) (number_fine n k) c t)
       (updated_of (words_at (word_place k) l) (time_of (half c) t.axis t.times) d) e
     where
-      go : (v : Verdict) (u : Updated) → (changing v l (stored u (word_place k) l)).answer ≡ Turned r
+      go : (v : Verdict) (u : Updated) → (changing v l (stored u (word_place k) l)).answer ≡ Err r
           → (changing v l (stored u (word_place k) l)).words ≡ l
-      go Fine (To y) q = let z : false ≡ true = cc in clash z
-      go Fine (Refused p) q = refl
-      go (Judged p) u q = refl
+      go (Ok tt) (Ok y) q = let z : false ≡ true = cc in clash z
+      go (Ok tt) (Err p) q = refl
+      go (Err p) u q = refl
 
-  pub at_kept : (k : ℕ) (d : ℤ) (l : List Accumulator) → (accum_at c t k d l).answer ≡ Turned r → (accum_at c t k d l).list ≡ l
+  pub at_kept : (k : ℕ) (d : ℤ) (l : List Accumulator) → (accum_at c t k d l).answer ≡ Err r → (accum_at c t k d l).list ≡ l
   unfolding accum_at updated_at
   at_kept k d l e =
       go (list_judged (count_fine (length l)) (number_fine (length l) k) c t)
       (updated_of (numbered k l) (time_of (half c) t.axis t.times) d) e
     where
-      go : (v : Verdict) (u : Updated) → (listing v l (list_after u k l)).answer ≡ Turned r → (listing v l (list_after u k l)).list ≡ l
-      go Fine (To y) q = let z : false ≡ true = cc in clash z
-      go Fine (Refused p) q = refl
-      go (Judged p) u q = refl
+      go : (v : Verdict) (u : Updated) → (listing v l (list_after u k l)).answer ≡ Err r → (listing v l (list_after u k l)).list ≡ l
+      go (Ok tt) (Ok y) q = let z : false ≡ true = cc in clash z
+      go (Ok tt) (Err p) q = refl
+      go (Err p) u q = refl

@@ -1,12 +1,10 @@
 -- A list of accumulators, numbered from 1, and the same in a flat list of words.
-use Rattle.std.specs.Prelude.{ℕ, zero, suc, ◌+◌, ◌-◌, ◌*◌, ◌≡◌, refl, List, [], ◌∷◌, length, get_or, set, ℤ}
+use Rattle.std.specs.Prelude.{ℕ, zero, suc, ◌+◌, ◌-◌, ◌*◌, ◌≡◌, refl, List, [], ◌∷◌, length, get_or, set, ℤ, Ok, Err}
 use Rattle.std.proofs.Common.{ap, ◌∙◌, arith}
-use Rattle.model.specs.declared.answer.Answer.{Answer}
-use Rattle.model.specs.declared.answer.Answer.TheVariants.{Done, Refused as Turned}
+use Rattle.model.specs.Answers.{Answered}
+use Rattle.model.specs.declared.answer.Answer.TheVariants.{Done}
 use Rattle.accum_laws.specs.declared.Accumulator.{Accumulator}
-use Rattle.accum_laws.specs.declared.Updated.{Updated}
-use Rattle.accum_laws.specs.declared.Updated.TheVariants.{To, Refused}
-use Rattle.accum_laws.specs.Update.{updated_of}
+use Rattle.accum_laws.specs.Update.{Updated, updated_of}
 use Rattle.accum_laws.specs.Keeps.{zero_accumulator}
 use Rattle.accum_laws.specs.Flat.{Changed, words_at, with_words, word_place, stored, updated_in}
 
@@ -18,14 +16,14 @@ flat (x ∷ l) = x.a ∷ x.b ∷ x.c ∷ flat l
 -- a list of accumulators after a call, and its answer
 pub record Listed : Type 0 where
   pub list : List Accumulator
-  pub answer : Answer
+  pub answer : Answered
 
 abbrev pub numbered : ℕ → List Accumulator → Accumulator
 numbered k l = get_or l (k - 1) zero_accumulator
 
 abbrev pub list_after : Updated → ℕ → List Accumulator → Listed
-list_after (To v) k l = record { list = set l (k - 1) v; answer = Done }
-list_after (Refused q) k l = record { list = l; answer = Turned q }
+list_after (Ok v) k l = record { list = set l (k - 1) v; answer = Ok Done }
+list_after (Err q) k l = record { list = l; answer = Err q }
 
 -- "13 is accum on triple x": number k replaced by its update, or refusal 7
 unfoldable pub updated_at : ℕ → ℕ → ℤ → List Accumulator → Listed
@@ -69,5 +67,5 @@ flat_updated k t d l =
     ap (λ (x : Accumulator). stored (updated_of x t d) (word_place k) (flat l)) (flat_at l (k - 1)) ∙ go (updated_of (numbered k l) t d)
   where
     go : (u : Updated) → stored u (word_place k) (flat l) ≡ flattened (list_after u k l)
-    go (To v) = ap (λ (w : List ℤ). record { words = w; answer = Done }) (flat_with l (k - 1) v)
-    go (Refused q) = refl
+    go (Ok v) = ap (λ (w : List ℤ). record { words = w; answer = Ok Done }) (flat_with l (k - 1) v)
+    go (Err q) = refl

@@ -1,13 +1,12 @@
 -- Accum on one accumulator, over whole numbers: "a grows by c × (time − b), b becomes time, c grows by d".
-use Rattle.std.specs.Prelude.{ℕ, ◌*◌, ◌≤◌, ◌≡◌, refl, Bool, true, false, ◌&&◌, T, leb, ℤ, pos, negsuc, nat_abs, ◌+ℤ◌, ◌-ℤ◌, ◌*ℤ◌, if◌then◌else◌}
+use Rattle.std.specs.Prelude.{ℕ, ◌*◌, ◌≤◌, ◌≡◌, refl, Bool, true, false, ◌&&◌, T, leb, ℤ, pos, negsuc, nat_abs, ◌+ℤ◌, ◌-ℤ◌, ◌*ℤ◌, if◌then◌else◌, Ok, Err, Result}
 use Rattle.std.proofs.Common.{subst, arith, not-suc-le-zero}
 use borrow.Author.Tests.{le-leb, ltb-true, leb-true}
 use Rattle.std.specs.Int.Signed.{le_z, lt_z}
 use Rattle.model.specs.Counts.{limit, both}
 use Rattle.model.specs.declared.Refusal.TheVariants.{Accumulator as NotAsRequired}
 use Rattle.accum_laws.specs.declared.Accumulator.{Accumulator}
-use Rattle.accum_laws.specs.declared.Updated.{Updated}
-use Rattle.accum_laws.specs.declared.Updated.TheVariants.{To, Refused}
+use Rattle.model.specs.declared.Refusal.{Refusal}
 
 -- "Required before: 0 ≤ b ≤ time, |a| ≤ 1,000,000 × b, |c| ≤ 1,000,000", and refusal 7 for "abs(c + d) above 1,000,000"
 unfoldable pub may_update : Accumulator → ℕ → ℤ → Bool
@@ -20,8 +19,12 @@ may_update x t d =
 unfoldable pub grown_of : Accumulator → ℕ → ℤ → Accumulator
 grown_of x t d = record { a = x.a +ℤ x.c *ℤ (pos t -ℤ x.b); b = pos t; c = x.c +ℤ d }
 
+-- the accumulator after an update, or why there is none
+abbrev pub Updated : Type 0
+Updated = Result Accumulator Refusal
+
 unfoldable pub updated_of : Accumulator → ℕ → ℤ → Updated
-updated_of x t d = if may_update x t d then To (grown_of x t d) else Refused NotAsRequired
+updated_of x t d = if may_update x t d then Ok (grown_of x t d) else Err NotAsRequired
 
 -- what is required before, as facts
 pub record Required (x : Accumulator) (t : ℕ) : Type 0 where
@@ -71,10 +74,10 @@ says_may x t d m =
 
 -- the clauses
 module _ (x : Accumulator) (t : ℕ) (d : ℤ) where
-  pub updated_to : may_update x t d ≡ true → updated_of x t d ≡ To (grown_of x t d)
+  pub updated_to : may_update x t d ≡ true → updated_of x t d ≡ Ok (grown_of x t d)
   unfolding updated_of
   updated_to e = rw e
 
-  pub updated_not : may_update x t d ≡ false → updated_of x t d ≡ Refused NotAsRequired
+  pub updated_not : may_update x t d ≡ false → updated_of x t d ≡ Err NotAsRequired
   unfolding updated_of
   updated_not e = rw e

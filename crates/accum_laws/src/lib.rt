@@ -12,25 +12,16 @@ pub struct Accumulator {
     pub c: i64,
 }
 
-// The accumulator after an update, or why there is none.
-#[derive(Clone, Copy)]
-pub enum Updated {
-    To(Accumulator),
-    Refused(Refusal),
-}
-
 // An accumulator after a call, and the call's answer.
 #[derive(Clone, Copy)]
 pub struct Kept {
     pub value: Accumulator,
-    pub answer: Answer,
+    pub answer: Result<Answer, Refusal>,
 }
 
-// What is to be done on a list: refused with this answer, or an update of the element at this place at this time.
+// The element of a list that is to be updated, and when.
 #[derive(Clone, Copy)]
 pub struct Picked {
-    pub refused: bool,
     pub at: usize,
     pub time: u64,
-    pub answer: Answer,
 }

@@ -1,5 +1,5 @@
 -- The calls that a step can make, and what each does to the machine's lists. A refused call changes nothing.
-use Rattle.std.specs.Prelude.{ℕ, ◌-◌, Bool, ℤ, set}
+use Rattle.std.specs.Prelude.{ℕ, ◌-◌, Bool, ℤ, set, Ok, Err}
 use Rattle.model.specs.declared.Counts.{Counts}
 use Rattle.model.specs.Counts.{is_head}
 use Rattle.model.specs.declared.call.SetCall.{SetCall}
@@ -8,9 +8,7 @@ use Rattle.model_laws.specs.Result.{need, done, refused, Result}
 use Rattle.model_laws.specs.Now.{time}
 use Rattle.simset_laws.specs.Plain.{set_call}
 use Rattle.simulation_laws.specs.Plain as plain
-use Rattle.accum_laws.specs.declared.Updated.{Updated}
-use Rattle.accum_laws.specs.declared.Updated.TheVariants.{To, Refused}
-use Rattle.accum_laws.specs.Update.{updated_of}
+use Rattle.accum_laws.specs.Update.{Updated, updated_of}
 use Rattle.accum_laws.specs.Triples.{numbered}
 use Rattle.machine.specs.Machine.{Machine, with_lists, with_triples}
 
@@ -50,8 +48,8 @@ lifted m (refused r) = refused r
 lifted m (done l) = done (with_lists m l)
 
 abbrev pub storing : Machine → ℕ → Updated → Result Machine
-storing m k (To v) = done (with_triples m (set m.triples (k - 1) v))
-storing m k (Refused r) = refused r
+storing m k (Ok v) = done (with_triples m (set m.triples (k - 1) v))
+storing m k (Err r) = refused r
 
 -- "13 is accum on triple x"
 unfoldable pub perform : Counts → Call → Machine → Result Machine

@@ -1,27 +1,26 @@
 -- A model's counts H, P and L, their limits, and the kinds of numbers: "heads first, then processes, then plain links, from 1;
 -- 0 means none".
-use Rattle.std.specs.Prelude.{ℕ, ◌+◌, ◌-◌, ◌≤◌, ◌<◌, ◌≡◌, refl, Bool, true, false, not, ◌&&◌, leb, ltb, if◌then◌else◌}
+use Rattle.std.specs.Prelude.{ℕ, ◌+◌, ◌-◌, ◌≤◌, ◌<◌, ◌≡◌, refl, Bool, true, false, not, ◌&&◌, leb, ltb, if◌then◌else◌, Ok, Err, Result}
 use Rattle.std.proofs.Common.{sym, ◌∙◌}
 use borrow.Author.Tests.{leb-true, le-leb, lt-leb, not-true, not-false}
 use Rattle.ring_laws.specs.Lists.{test, clash}
 use Rattle.model.specs.declared.Counts.{Counts}
-use Rattle.model.specs.declared.CountsMade.{CountsMade}
-use Rattle.model.specs.declared.CountsMade.TheVariants.{Made, Refused}
 use Rattle.model.specs.declared.Refusal.TheVariants.{Size}
 use Rattle.model.specs.Refusals.{refusal_number}
+use Rattle.model.specs.declared.Refusal.{Refusal}
 
 -- "at most 64 heads, 1 to 1,024 processes and at most 3,008 plain links"
 unfoldable pub in_limits : Counts → Bool
 in_limits c = leb c.heads 64 && (leb 1 c.processes && (leb c.processes 1024 && leb c.plains 3008))
 
 -- the counts, or refusal 1
-unfoldable pub made_of : Counts → CountsMade
-made_of c = if in_limits c then Made c else Refused Size
+unfoldable pub made_of : Counts → Result Counts Refusal
+made_of c = if in_limits c then Ok c else Err Size
 
 -- the papers' number of what the constructor answers; 0 is accepted
-abbrev pub made_code : CountsMade → ℕ
-made_code (Made c) = 0
-made_code (Refused r) = refusal_number r
+abbrev pub made_code : Result Counts Refusal → ℕ
+made_code (Ok c) = 0
+made_code (Err r) = refusal_number r
 
 -- N = H + P + L
 abbrev pub total : Counts → ℕ
@@ -97,12 +96,12 @@ allowed_limits c a =
     rw (le-leb _ _ a.heads_in, le-leb _ _ a.some, le-leb _ _ a.processes_in) (le-leb _ _ a.plains_in)
 
 -- counts that were made are the ones asked for, within the limits
-pub made_allowed : (c n : Counts) → made_of c ≡ Made n → (n ≡ c) × Allowed c
+pub made_allowed : (c n : Counts) → made_of c ≡ Ok n → (n ≡ c) × Allowed c
 unfolding made_of
 made_allowed c n e =
     test (in_limits c)
-    (λ t. let q : Made c ≡ Made n = sym (rw t) ∙ e in (cc, limits_allowed c t))
-    (λ t. let q : Refused Size ≡ Made n = sym (rw t) ∙ e in let z : false ≡ true = cc in clash z)
+    (λ t. let q : Ok c ≡ Ok n = sym (rw t) ∙ e in (cc, limits_allowed c t))
+    (λ t. let q : Err Size ≡ Ok n = sym (rw t) ∙ e in let z : false ≡ true = cc in clash z)
 
 -- the constructor's number is 0 exactly within the limits, else 1
 pub made_code_lem : (c : Counts) → made_code (made_of c) ≡ (if in_limits c then 0 else 1)
@@ -130,10 +129,10 @@ module _ (c : Counts) where
       limits_plains l = rw (le-leb c.heads 64 h, le-leb 1 c.processes s, le-leb c.processes 1024 l)
 
   module _ (ok : Bool) (e : ok ≡ in_limits c) where
-    pub made_not : not ok ≡ true → Refused Size ≡ made_of c
+    pub made_not : not ok ≡ true → Err Size ≡ made_of c
     unfolding made_of
     made_not n = rw (sym e ∙ not-true ok n)
 
-    pub made_fine : not ok ≡ false → Made c ≡ made_of c
+    pub made_fine : not ok ≡ false → Ok c ≡ made_of c
     unfolding made_of
     made_fine n = rw (sym e ∙ not-false ok n)

@@ -2,3 +2,4 @@
 pub mod Refusals
 pub mod Counts
 pub mod Answers
+pub mod Passed

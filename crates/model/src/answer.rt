@@ -1,4 +1,4 @@
-// What a call answers.
+// What a call answers: this, or the refusal.
 ghost use Rattle.std.specs.Prelude.{◌≡◌};
 ghost use Rattle.model.specs.Answers.{code_of, value_of};
 
@@ -6,45 +6,33 @@ use crate::Refusal;
 
 #[derive(Clone, Copy)]
 pub enum Answer {
-    // Accepted, with nothing to tell.
+    // Nothing to tell.
     Done,
     // A linkage's number, 0 for none.
     Linkage(u32),
     // A count or a time.
     Number(u64),
     Truth(bool),
-    Refused(Refusal),
 }
 
-impl Answer {
-    // 0 for accepted, else the refusal's number.
-    pub fn code(self) -> u32
-        ensures { result ≡ code_of self }
-    {
-        match self {
-            Answer::Done => 0,
-            Answer::Linkage(_) => 0,
-            Answer::Number(_) => 0,
-            Answer::Truth(_) => 0,
-            Answer::Refused(r) => r.number(),
-        }
+// 0 for accepted, else the refusal's number.
+pub fn code(answered: Result<Answer, Refusal>) -> u32
+    ensures { result ≡ code_of answered }
+{
+    match answered {
+        Ok(_) => 0,
+        Err(refusal) => refusal.number(),
     }
+}
 
-    // The value as a number: truth is 1, and 0 stands where there is none.
-    pub fn value(self) -> u64
-        ensures { result ≡ value_of self }
-    {
-        match self {
-            Answer::Done => 0,
-            Answer::Linkage(x) => x as u64,
-            Answer::Number(n) => n,
-            Answer::Truth(b) => {
-                if b {
-                    return 1;
-                }
-                0
-            }
-            Answer::Refused(_) => 0,
-        }
+// The value as a number: truth is 1, and 0 stands where there is none.
+pub fn value(answered: Result<Answer, Refusal>) -> u64
+    ensures { result ≡ value_of answered }
+{
+    match answered {
+        Ok(Answer::Linkage(x)) => x as u64,
+        Ok(Answer::Number(n)) => n,
+        Ok(Answer::Truth(b)) => b as u64,
+        Ok(Answer::Done) | Err(_) => 0,
     }
 }

@@ -4,13 +4,10 @@
 
 pub mod answer;
 pub mod call;
-pub mod verdict;
 
 ghost use Rattle.std.specs.Prelude.{◌≡◌};
 ghost use Rattle.model.specs.Refusals.{refusal_number};
 ghost use Rattle.model.specs.Counts.{made_of, in_limits, total, main, is_head, is_process, is_link, is_linkage, place_of};
-
-use ring::wide;
 
 // Why a call is turned down.
 #[derive(Clone, Copy)]
@@ -61,12 +58,6 @@ pub struct Counts {
     pub plains: u32,
 }
 
-#[derive(Clone, Copy)]
-pub enum CountsMade {
-    Made(Counts),
-    Refused(Refusal),
-}
-
 // The latest time: 2^40 - 1 ticks.
 pub const TIME_LIMIT: u64 = 1099511627775;
 
@@ -81,7 +72,8 @@ impl Counts {
     pub const MAX_MEMBERS: u32 = 512;
 
     // Counts within their limits, or the refusal.
-    pub fn new(heads: u32, processes: u32, plains: u32) -> CountsMade
+    #[tactic(auto, unfolding(crate::specs::Counts::made_of))]
+    pub fn new(heads: u32, processes: u32, plains: u32) -> Result<Counts, Refusal>
         ensures { result ≡ made_of (record { heads = heads; processes = processes; plains = plains }) }
     {
         let c = Counts {
@@ -89,87 +81,67 @@ impl Counts {
             processes,
             plains,
         };
-        let ok = c.within_limits();
-        if !ok {
-            return CountsMade::Refused(Refusal::Size);
+        if c.within_limits() {
+            Ok(c)
+        } else {
+            Err(Refusal::Size)
         }
-        CountsMade::Made(c)
     }
 
     // Are the counts within their limits?
+    #[tactic(auto, unfolding(crate::specs::Counts::in_limits))]
     pub fn within_limits(self) -> bool
         ensures { result ≡ in_limits self }
     {
-        if Counts::MAX_HEADS < self.heads {
-            return false;
-        }
-        if self.processes < 1 {
-            return false;
-        }
-        if Counts::MAX_PROCESSES < self.processes {
-            return false;
-        }
-        self.plains <= Counts::MAX_PLAINS
+        self.heads <= Counts::MAX_HEADS
+            && 1 <= self.processes
+            && self.processes <= Counts::MAX_PROCESSES
+            && self.plains <= Counts::MAX_PLAINS
     }
 
     // How many linkages there are.
     pub fn total(self) -> usize
         ensures { result ≡ total self }
     {
-        wide(self.heads) + wide(self.processes) + wide(self.plains)
+        self.heads as usize + self.processes as usize + self.plains as usize
     }
 
     // Main is the first process.
     pub fn main(self) -> usize
         ensures { result ≡ main self }
     {
-        wide(self.heads) + 1
+        self.heads as usize + 1
     }
 
     pub fn is_head(self, i: u32) -> bool
         ensures { result ≡ is_head self i }
     {
-        if i < 1 {
-            return false;
-        }
-        i <= self.heads
+        1 <= i && i <= self.heads
     }
 
     pub fn is_process(self, i: u32) -> bool
         ensures { result ≡ is_process self i }
     {
-        if i <= self.heads {
-            return false;
-        }
-        wide(i) <= wide(self.heads) + wide(self.processes)
+        self.heads < i && i as usize <= self.heads as usize + self.processes as usize
     }
 
     // Links are processes and plain links.
     pub fn is_link(self, i: u32) -> bool
         ensures { result ≡ is_link self i }
     {
-        if i <= self.heads {
-            return false;
-        }
-        wide(i) <= self.total()
+        self.heads < i && i as usize <= self.total()
     }
 
     pub fn is_linkage(self, i: u32) -> bool
         ensures { result ≡ is_linkage self i }
     {
-        if i < 1 {
-            return false;
-        }
-        wide(i) <= self.total()
+        1 <= i && i as usize <= self.total()
     }
 
     // The place in the axis of the process with this number; 0 for none and for a head.
     pub fn place_of(self, i: u32) -> u32
         ensures { result ≡ place_of self i }
     {
-        if i <= self.heads {
-            return 0;
-        }
-        i - self.heads
+        i.saturating_sub(self.heads)
     }
 }

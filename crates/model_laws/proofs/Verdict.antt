@@ -1,11 +1,10 @@
 -- The verdict on counts and tables: fine, 1 or 2, each exactly where the papers say.
-use Rattle.std.specs.Prelude.{◌≡◌, Bool, true, false, not, ◌&&◌}
+use Rattle.std.specs.Prelude.{◌≡◌, Bool, true, false, not, ◌&&◌, Ok, Err}
 use Rattle.std.proofs.Common.{sym, ap, ◌∙◌}
 use Rattle.std.proofs.lemmas.Bool.{not-true, not-false}
 use Rattle.ring_laws.specs.Lists.{test, clash}
 use Rattle.model.specs.declared.Counts.{Counts}
 use Rattle.model.specs.declared.Refusal.TheVariants.{Size, Malformed}
-use Rattle.model.specs.declared.verdict.Verdict.TheVariants.{Fine, Refused}
 use Rattle.model.specs.Counts.{in_limits, both, and_on, limits_allowed, allowed_limits}
 use Rattle.model_laws.specs.Tables.{Tables, Sized}
 use Rattle.model_laws.specs.Judge.{lengths_fine, tables_fine, judged}
@@ -41,11 +40,11 @@ judged_code c t =
 -- ---- the code's answers, from its tests
 
 module _ (c : Counts) (t : Tables) (a : Bool) (ea : a ≡ in_limits c) where
-  pub verdict_limits : not a ≡ true → Refused Size ≡ judged c t
+  pub verdict_limits : not a ≡ true → Err Size ≡ judged c t
   verdict_limits n = sym (judged_size c t (rw (sym ea ∙ not-true a n)))
 
   module _ (na : not a ≡ false) (b : Bool) (eb : b ≡ lengths_fine c t) where
-    pub verdict_lengths : not b ≡ true → Refused Size ≡ judged c t
+    pub verdict_lengths : not b ≡ true → Err Size ≡ judged c t
     verdict_lengths n = sym (judged_size c t (rw (sym ea ∙ not-false a na, sym eb ∙ not-true b n)))
 
     pub verdict_sized : not b ≡ false → Sized c t
@@ -55,8 +54,8 @@ module _ (c : Counts) (t : Tables) (a : Bool) (ea : a ≡ in_limits c) where
       sized : (in_limits c && lengths_fine c t) ≡ true
       sized = sym (and_on _ _ _ (sym ea ∙ not-false a na) (sym (sym eb ∙ not-false b nb)))
 
-      pub verdict_formed : not g ≡ true → Refused Malformed ≡ judged c t
+      pub verdict_formed : not g ≡ true → Err Malformed ≡ judged c t
       verdict_formed n = sym (judged_formed c t sized (sym eg ∙ not-true g n))
 
-      pub verdict_fine : not g ≡ false → Fine ≡ judged c t
+      pub verdict_fine : not g ≡ false → (Ok tt) ≡ judged c t
       verdict_fine n = sym (judged_good c t sized (sym eg ∙ not-false g n))

@@ -1,6 +1,6 @@
 -- "A fresh model has empty sets and one notice, main at 0": its tables by the published statements, and the lists they spell.
 use Prim.Native.Nat.{ℕ, zero, suc, ◌+◌, ◌*◌, ◌-◌, ◌<◌, ◌≤◌}
-use Rattle.std.specs.Prelude.{◌≡◌, refl, ◌≢◌, ◌⊎◌, Bool, true, false, ◌&&◌, length, get_or, replicate, if◌then◌else◌}
+use Rattle.std.specs.Prelude.{◌≡◌, refl, ◌≢◌, ◌⊎◌, Bool, true, false, ◌&&◌, length, get_or, replicate, if◌then◌else◌, Ok, Err}
 use Rattle.std.proofs.Math.Path.{sym, ap}
 use Rattle.std.proofs.Common.{◌∙◌, subst}
 use Rattle.std.proofs.Math.Logic.{inl, inr, ⊎_elim}
@@ -18,8 +18,7 @@ use Rattle.ring_laws.specs.Empty.{spells_empty, length_zeros, get_or_zeros, self
 use Rattle.model.specs.declared.Counts.{Counts}
 use Rattle.model.specs.declared.Refusal.{Refusal}
 use Rattle.model.specs.declared.Refusal.TheVariants.{Size}
-use Rattle.model.specs.declared.verdict.Verdict.{Verdict}
-use Rattle.model.specs.declared.verdict.Verdict.TheVariants.{Fine, Refused}
+use Rattle.model.specs.Answers.{Verdict}
 use Rattle.model.specs.Counts.{in_limits, Allowed, total, main}
 use Rattle.axis_laws.specs.Notices.{due_of}
 use Rattle.ring_laws.specs.Tabulate.{listed, at_table}
@@ -53,17 +52,17 @@ fresh_lists c = record { sets = replicate c.heads []; notices = record { who = m
 -- lent tables of the right lengths are filled, others refused and left alone
 unfoldable pub freshed : Counts → Tables → After Verdict
 freshed c t =
-    if in_limits c && lengths_fine c t then record { tables = fresh_tables c; answer = Fine } else record { tables = t; answer = Refused Size }
+    if in_limits c && lengths_fine c t then record { tables = fresh_tables c; answer = Ok tt } else record { tables = t; answer = Err Size }
 
 -- a refused call changes nothing
-pub fresh_kept : (c : Counts) (t : Tables) (r : Refusal) → (freshed c t).answer ≡ Refused r → (freshed c t).tables ≡ t
+pub fresh_kept : (c : Counts) (t : Tables) (r : Refusal) → (freshed c t).answer ≡ Err r → (freshed c t).tables ≡ t
 unfolding freshed
 fresh_kept c t r e = go (in_limits c && lengths_fine c t) e
   where
     after : Bool → After Verdict
-    after b = if b then record { tables = fresh_tables c; answer = Fine } else record { tables = t; answer = Refused Size }
+    after b = if b then record { tables = fresh_tables c; answer = Ok tt } else record { tables = t; answer = Err Size }
 
-    go : (b : Bool) → (after b).answer ≡ Refused r → (after b).tables ≡ t
+    go : (b : Bool) → (after b).answer ≡ Err r → (after b).tables ≡ t
     go true q = let z : false ≡ true = cc in clash z
     go false q = refl
 

@@ -1,11 +1,10 @@
 -- What the judge of a model computes: limits and lengths (refusal 1), then rings, times and marks (refusal 2).
-use Rattle.std.specs.Prelude.{ℕ, zero, suc, ◌+◌, ◌*◌, Bool, true, false, ◌&&◌, List, eqb, leb, ltb, length, get_or, if◌then◌else◌}
+use Rattle.std.specs.Prelude.{ℕ, zero, suc, ◌+◌, ◌*◌, Bool, true, false, ◌&&◌, List, eqb, leb, ltb, length, get_or, if◌then◌else◌, Ok, Err}
 use Rattle.ring_laws.specs.Stores.{sucs, pres}
 use Rattle.ring_laws.specs.Judge.{idle, rings_fine}
 use Rattle.model.specs.declared.Counts.{Counts}
 use Rattle.model.specs.declared.Refusal.TheVariants.{Size, Malformed}
-use Rattle.model.specs.declared.verdict.Verdict.{Verdict}
-use Rattle.model.specs.declared.verdict.Verdict.TheVariants.{Fine, Refused}
+use Rattle.model.specs.Answers.{Verdict}
 use Rattle.model.specs.Counts.{in_limits, total, limit, most_members}
 use Rattle.axis_laws.specs.Marks.{mark_fine}
 use Rattle.model_laws.specs.Tables.{Tables}
@@ -47,7 +46,7 @@ lengths_fine c t =
 -- limits and lengths, then the tables
 unfoldable pub judged : Counts → Tables → Verdict
 judged c t =
-    if in_limits c && lengths_fine c t then (if tables_fine c t then Fine else Refused Malformed) else Refused Size
+    if in_limits c && lengths_fine c t then (if tables_fine c t then (Ok tt) else Err Malformed) else Err Size
 
 -- ---- a run's positions
 
@@ -60,5 +59,5 @@ positions_fine R positions (suc i) = if ltb R (get_or positions (suc i) 0) then 
 unfoldable pub positions_judged : Counts → ℕ → List ℕ → Verdict
 positions_judged c R positions =
     if eqb (length positions) (c.processes + 1)
-    then (if positions_fine R positions c.processes then Fine else Refused Malformed)
-    else Refused Size
+    then (if positions_fine R positions c.processes then (Ok tt) else Err Malformed)
+    else Err Size

@@ -1,20 +1,19 @@
 -- The verdict on counts and tables: fine, 1 or 2, each exactly where the papers say.
-use Rattle.std.specs.Prelude.{ℕ, ◌+◌, ◌*◌, ◌≡◌, ◌⊎◌, true, false, ◌&&◌, eqb, length}
+use Rattle.std.specs.Prelude.{ℕ, ◌+◌, ◌*◌, ◌≡◌, ◌⊎◌, true, false, ◌&&◌, eqb, length, Ok, Err}
 use Rattle.std.proofs.Common.{inl, inr, eq-eqb, eqb-true}
 use Rattle.ring_laws.specs.Lists.{clash}
 use Rattle.model.specs.declared.Counts.{Counts}
 use Rattle.model.specs.declared.Refusal.TheVariants.{Size, Malformed}
 use Rattle.model.specs.Refusals.{refusal_number}
-use Rattle.model.specs.declared.verdict.Verdict.{Verdict}
-use Rattle.model.specs.declared.verdict.Verdict.TheVariants.{Fine, Refused}
+use Rattle.model.specs.Answers.{Verdict}
 use Rattle.model.specs.Counts.{in_limits, total, both}
 use Rattle.model_laws.specs.Tables.{Tables, Lengths, Sized, WellFormed}
 use Rattle.model_laws.specs.Judge.{lengths_fine, tables_fine, judged}
 
 -- the papers' number of a verdict; 0 is accepted
 abbrev pub verdict_code : Verdict → ℕ
-verdict_code Fine = 0
-verdict_code (Refused r) = refusal_number r
+verdict_code (Ok tt) = 0
+verdict_code (Err r) = refusal_number r
 
 -- ---- lengths
 
@@ -43,33 +42,33 @@ mean_lengths c t s =
 -- ---- the clauses
 
 module _ (c : Counts) (t : Tables) where
-  pub judged_size : (in_limits c && lengths_fine c t) ≡ false → judged c t ≡ Refused Size
+  pub judged_size : (in_limits c && lengths_fine c t) ≡ false → judged c t ≡ Err Size
   unfolding judged
   judged_size e = rw e
 
   module _ (e : (in_limits c && lengths_fine c t) ≡ true) where
-    pub judged_formed : tables_fine c t ≡ false → judged c t ≡ Refused Malformed
+    pub judged_formed : tables_fine c t ≡ false → judged c t ≡ Err Malformed
     unfolding judged
     judged_formed f = rw (e, f)
 
-    pub judged_good : tables_fine c t ≡ true → judged c t ≡ Fine
+    pub judged_good : tables_fine c t ≡ true → judged c t ≡ (Ok tt)
     unfolding judged
     judged_good f = rw (e, f)
 
 -- ---- the theorem, in both directions
 
 pub record Says (c : Counts) (t : Tables) (v : Verdict) : Type 0 where
-  pub fine : Sized c t → WellFormed c t → v ≡ Fine
-  pub one : (Sized c t → ⊥) → v ≡ Refused Size
-  pub two : Sized c t → (WellFormed c t → ⊥) → v ≡ Refused Malformed
-  pub fine_only : v ≡ Fine → Sized c t × WellFormed c t
-  pub one_only : v ≡ Refused Size → Sized c t → ⊥
-  pub two_only : v ≡ Refused Malformed → Sized c t × (WellFormed c t → ⊥)
+  pub fine : Sized c t → WellFormed c t → v ≡ (Ok tt)
+  pub one : (Sized c t → ⊥) → v ≡ Err Size
+  pub two : Sized c t → (WellFormed c t → ⊥) → v ≡ Err Malformed
+  pub fine_only : v ≡ (Ok tt) → Sized c t × WellFormed c t
+  pub one_only : v ≡ Err Size → Sized c t → ⊥
+  pub two_only : v ≡ Err Malformed → Sized c t × (WellFormed c t → ⊥)
   -- and there is no other verdict
-  pub each : (v ≡ Fine) ⊎ ((v ≡ Refused Size) ⊎ (v ≡ Refused Malformed))
+  pub each : (v ≡ (Ok tt)) ⊎ ((v ≡ Err Size) ⊎ (v ≡ Err Malformed))
 
 module _ (c : Counts) (t : Tables) (v : Verdict) where
-  pub says_fine : Sized c t → WellFormed c t → v ≡ Fine → Says c t v
+  pub says_fine : Sized c t → WellFormed c t → v ≡ (Ok tt) → Says c t v
   says_fine s w e =
       record {
         fine = λ s w. e;
@@ -81,7 +80,7 @@ module _ (c : Counts) (t : Tables) (v : Verdict) where
         each = inl e;
       }
 
-  pub says_one : (Sized c t → ⊥) → v ≡ Refused Size → Says c t v
+  pub says_one : (Sized c t → ⊥) → v ≡ Err Size → Says c t v
   says_one n e =
       record {
         fine = λ s w. absurd (n s);
@@ -93,7 +92,7 @@ module _ (c : Counts) (t : Tables) (v : Verdict) where
         each = inr (inl e);
       }
 
-  pub says_two : Sized c t → (WellFormed c t → ⊥) → v ≡ Refused Malformed → Says c t v
+  pub says_two : Sized c t → (WellFormed c t → ⊥) → v ≡ Err Malformed → Says c t v
   says_two s n e =
       record {
         fine = λ s w. absurd (n w);

@@ -1,6 +1,6 @@
 -- A turn whose call may be any: a stretch with room for one line, and where that leaves the call, a turn apart. Turns with room for one
 -- line come to what one turn comes to, and tell it.
-use Rattle.std.specs.Prelude.{ℕ, suc, ◌+◌, ◌*◌, ◌-◌, ◌/◌, ◌≡◌, List}
+use Rattle.std.specs.Prelude.{ℕ, suc, ◌+◌, ◌*◌, ◌-◌, ◌/◌, ◌≡◌, List, Ok, Err}
 use Rattle.std.proofs.Math.Path.{refl}
 use Rattle.std.proofs.Common.{sym, ap, ◌∙◌, arith}
 use Rattle.std.proofs.Math.Bool.{true, false}
@@ -13,18 +13,17 @@ use Rattle.machine.specs.Run.{line_size}
 use Rattle.run_laws.specs.declared.Pause.{Pause}
 use Rattle.run_laws.specs.declared.Pause.TheVariants.{Full as NoRoom, Apart, Refused as Stopped}
 use Rattle.run_laws.specs.declared.Stretch.{Stretch}
-use Rattle.run_laws.specs.declared.Turn.{Turn}
-use Rattle.run_laws.specs.declared.Turn.TheVariants.{Finished as AtEnd, Made, Refused as NotMade}
-use Rattle.run_laws.specs.Run.{RunTables, Turned, On, Off, Stepped, step_on, ends_now, TurnedOn, turn_by, turn_on, RanOn, stopped_on}
+use Rattle.run_laws.specs.declared.Turn.TheVariants.{Finished as AtEnd, Made}
+use Rattle.run_laws.specs.Run.{Taken, RunTables, Turned, On, Off, Stepped, step_on, ends_now, TurnedOn, turn_by, turn_on, RanOn, stopped_on}
 use Rattle.run_laws.specs.Run.{turns_on}
 use Rattle.run_laws.specs.Paused.{left_by, is_full, is_due, Paused}
 
 module _ (c : Counts) (bytes : List ℕ) (n : ℕ) where
   -- what one turn comes to, as turns with room for one line
-  abbrev after : Turn → RunTables → List ℕ → RanOn
-  after AtEnd u tr = stopped_on n Finished u tr
-  after Made u tr = turns_on c bytes (suc n) 0 u tr
-  after (NotMade r) u tr = stopped_on n (Refused r) u tr
+  abbrev after : Taken → RunTables → List ℕ → RanOn
+  after (Ok AtEnd) u tr = stopped_on n Finished u tr
+  after (Ok Made) u tr = turns_on c bytes (suc n) 0 u tr
+  after (Err r) u tr = stopped_on n (Refused r) u tr
 
   abbrev whole : TurnedOn → RanOn
   whole o = after o.turn o.run o.trace
@@ -72,21 +71,21 @@ module _ (c : Counts) (bytes : List ℕ) (n : ℕ) where
   less : {T : Type 0} → n ≡ suc n → T
   less e = absurd (omega (arith, e))
 
-  runs : (t : Turn) (u : RunTables) (tr : List ℕ) → ((after t u tr).run ≡ u) × ((after t u tr).trace ≡ tr)
-  runs AtEnd u tr = (refl, refl)
-  runs Made u tr = let d = none_done u tr in (d.0, d.1)
-  runs (NotMade r) u tr = (refl, refl)
+  runs : (t : Taken) (u : RunTables) (tr : List ℕ) → ((after t u tr).run ≡ u) × ((after t u tr).trace ≡ tr)
+  runs (Ok AtEnd) u tr = (refl, refl)
+  runs (Ok Made) u tr = let d = none_done u tr in (d.0, d.1)
+  runs (Err r) u tr = (refl, refl)
 
-  turns_same : (s t : Turn) (u v : RunTables) (tr tv : List ℕ) → after s u tr ≡ after t v tv → s ≡ t
-  turns_same AtEnd AtEnd u v tr tv e = refl
-  turns_same AtEnd Made u v tr tv e = less (ap lines e ∙ (none_done v tv).2)
-  turns_same AtEnd (NotMade r) u v tr tv e = let z : Finished ≡ Refused r = ap end e in let y : false ≡ true = cc in clash y
-  turns_same Made AtEnd u v tr tv e = less (sym (ap lines e) ∙ (none_done u tr).2)
-  turns_same Made Made u v tr tv e = refl
-  turns_same Made (NotMade r) u v tr tv e = less (sym (ap lines e) ∙ (none_done u tr).2)
-  turns_same (NotMade r) AtEnd u v tr tv e = let z : Refused r ≡ Finished = ap end e in let y : false ≡ true = cc in clash y
-  turns_same (NotMade r) Made u v tr tv e = less (ap lines e ∙ (none_done v tv).2)
-  turns_same (NotMade r) (NotMade q) u v tr tv e = let z : Refused r ≡ Refused q = ap end e in let y : r ≡ q = cc in ap NotMade y
+  turns_same : (s t : Taken) (u v : RunTables) (tr tv : List ℕ) → after s u tr ≡ after t v tv → s ≡ t
+  turns_same (Ok AtEnd) (Ok AtEnd) u v tr tv e = refl
+  turns_same (Ok AtEnd) (Ok Made) u v tr tv e = less (ap lines e ∙ (none_done v tv).2)
+  turns_same (Ok AtEnd) (Err r) u v tr tv e = let z : Finished ≡ Refused r = ap end e in let y : false ≡ true = cc in clash y
+  turns_same (Ok Made) (Ok AtEnd) u v tr tv e = less (sym (ap lines e) ∙ (none_done u tr).2)
+  turns_same (Ok Made) (Ok Made) u v tr tv e = refl
+  turns_same (Ok Made) (Err r) u v tr tv e = less (sym (ap lines e) ∙ (none_done u tr).2)
+  turns_same (Err r) (Ok AtEnd) u v tr tv e = let z : Refused r ≡ Finished = ap end e in let y : false ≡ true = cc in clash y
+  turns_same (Err r) (Ok Made) u v tr tv e = less (ap lines e ∙ (none_done v tv).2)
+  turns_same (Err r) (Err q) u v tr tv e = let z : Refused r ≡ Refused q = ap end e in let y : r ≡ q = cc in ap Err y
 
   tells : (o p : TurnedOn) → whole o ≡ whole p → o ≡ p
   tells o p e =
@@ -121,12 +120,12 @@ module _ (c : Counts) (bytes : List ℕ) (n : ℕ) where
         → left_by c bytes q m k u' tr' ≡ whole (turn_on c bytes i u tr)
     left_is k e q eq = sym (ap (λ (x : Pause). left_by c bytes x m k u' tr') eq) ∙ p.left k e ∙ to_whole
 
-    pub any_made : s.pause ≡ NoRoom → record { run = u'; trace = tr'; turn = Made } ≡ turn_on c bytes i u tr
+    pub any_made : s.pause ≡ NoRoom → record { run = u'; trace = tr'; turn = (Ok Made) } ≡ turn_on c bytes i u tr
     any_made e =
         let l : m ≡ suc n = omega (arith, one, p.few, p.full (ap is_full e)) in
         tells _ _ (ap (λ (k : ℕ). turns_on c bytes k 0 u' tr') (sym l) ∙ left_is 0 (omega (arith, one, l)) NoRoom e)
 
-    pub any_refused : (x : Refusal) → s.pause ≡ Stopped x → record { run = u'; trace = tr'; turn = NotMade x }
+    pub any_refused : (x : Refusal) → s.pause ≡ Stopped x → record { run = u'; trace = tr'; turn = Err x }
         ≡ turn_on c bytes i u tr
     any_refused x e =
         let w : stopped_on m (Refused x) u' tr' ≡ whole (turn_on c bytes i u tr) =
@@ -136,10 +135,10 @@ module _ (c : Counts) (bytes : List ℕ) (n : ℕ) where
         at_n : (o : TurnedOn) → stopped_on m (Refused x) u' tr' ≡ whole o → m ≡ n
         at_n o w = go o.turn o.run o.trace w
           where
-            go : (t : Turn) (v : RunTables) (tv : List ℕ) → stopped_on m (Refused x) u' tr' ≡ after t v tv → m ≡ n
-            go AtEnd v tv q = ap lines q
-            go Made v tv q = clash (no_refusal v tv x (sym (ap end q)))
-            go (NotMade r) v tv q = ap lines q
+            go : (t : Taken) (v : RunTables) (tv : List ℕ) → stopped_on m (Refused x) u' tr' ≡ after t v tv → m ≡ n
+            go (Ok AtEnd) v tv q = ap lines q
+            go (Ok Made) v tv q = clash (no_refusal v tv x (sym (ap end q)))
+            go (Err r) v tv q = ap lines q
 
     pub any_due : s.pause ≡ Apart → (o : TurnedOn) → o ≡ turn_on c bytes i u' tr' → o ≡ turn_on c bytes i u tr
     any_due e o eo =

@@ -1,10 +1,10 @@
 -- Each arm of the match over operations: what its function leaves, and what that means for current, is what the record's call comes to.
-use Rattle.std.specs.Prelude.{ℕ, ◌+◌, ◌≤◌, ◌≡◌, ◌≢◌, true, false, List, ℤ, pos, eqb, if◌then◌else◌}
+use Rattle.std.specs.Prelude.{ℕ, ◌+◌, ◌≤◌, ◌≡◌, ◌≢◌, true, false, List, ℤ, pos, eqb, if◌then◌else◌, Ok}
 use Rattle.std.proofs.Math.Path.{refl, sym, ap}
 use Rattle.std.proofs.Common.{◌∙◌, arith, ne_eqb}
 use Rattle.model.specs.declared.Counts.{Counts}
 use Rattle.model.specs.Counts.{total, is_head}
-use Rattle.model.specs.declared.answer.Answer.{Answer}
+use Rattle.model.specs.Answers.{Answered}
 use Rattle.model.specs.declared.answer.Answer.TheVariants.{Done}
 use Rattle.model.specs.declared.call.SetCall.{SetCall}
 use Rattle.model.specs.declared.call.SetCall.TheVariants.{Out, Follow, Precede, Into, Clear}
@@ -22,10 +22,9 @@ use Rattle.accum_laws.specs.Flat.{Changed, updated_in}
 use Rattle.sheet.specs.declared.records.Record.{Record}
 use Rattle.machine.specs.Calls.{ListCall, on_set, hold, passivate, wait, cancel, activate, if_empty, finish, Call, on_list, accum}
 use Rattle.run_laws.specs.OnTables.{operand_with, tables_after, Carried, carried_out}
-use Rattle.run_laws.specs.declared.Effect.{Effect}
 use Rattle.run_laws.specs.declared.Effect.TheVariants.{Stays, Jumps, Moves}
 use Rattle.run_laws.specs.Run.{record_operand, resolved, call_due}
-use Rattle.run_laws.specs.Performed.{list_effect, call_effect, effect_of, unless_refused, branched, performed}
+use Rattle.run_laws.specs.Performed.{Meant, list_effect, call_effect, effect_of, unless_refused, branched, performed}
 use Rattle.run_laws.specs.Walking.{at_hand_lem}
 use Rattle.run_laws.specs.Tried.{at_hand}
 use Rattle.run_laws.proofs.Which as which
@@ -56,11 +55,11 @@ module _ (c : Counts) (q : Record) (f : ℕ) (links axis times marks : List ℕ)
 
   -- ---- by what the call carries out
 
-  by : (k : Call) → due ≡ k → (e : Effect) → e ≡ effect_of k q (empty_of its_x links) → (a : Carried) → a ≡ carried_out c k t w
-      → (v : Effect) → v ≡ unless_refused a.answer e → record { tables = a.tables; words = a.words; effect = v } ≡ performed c q f t w
+  by : (k : Call) → due ≡ k → (e : Meant) → e ≡ effect_of k q (empty_of its_x links) → (a : Carried) → a ≡ carried_out c k t w
+      → (v : Meant) → v ≡ unless_refused a.answer e → record { tables = a.tables; words = a.words; effect = v } ≡ performed c q f t w
   unfolding performed resolved
   by k ek e ee a ea v ev =
-      ap (λ (z : Effect). record { tables = a.tables; words = a.words; effect = z }) (ev ∙ ap (unless_refused a.answer) ee)
+      ap (λ (z : Meant). record { tables = a.tables; words = a.words; effect = z }) (ev ∙ ap (unless_refused a.answer) ee)
       ∙ ap (λ (o : Carried). record {
         tables = o.tables;
         words = o.words;
@@ -74,18 +73,18 @@ module _ (c : Counts) (q : Record) (f : ℕ) (links axis times marks : List ℕ)
   unfolding effect_of
   plain n e z k = rw (ne_eqb q.operation 12 (λ o. z (sym e ∙ o)))
 
-  module _ (n : ℕ) (o : q.operation ≡ n) (z : n ≢ 12) (r : Answer) (v : Effect) where
+  module _ (n : ℕ) (o : q.operation ≡ n) (z : n ≢ 12) (r : Answered) (v : Meant) where
     list_by : (k : ListCall) → due ≡ on_list k → (b : Tables) → record { tables = b; answer = r } ≡ tables_after c k t
         → v ≡ unless_refused r (list_effect k)
         → record { tables = b; words = w; effect = v } ≡ performed c q f t w
     unfolding carried_out
     list_by k ek b ea ev =
         by (on_list k) ek (list_effect k) (plain n o z (on_list k)) (record { tables = b; words = w; answer = r })
-        (ap (λ (a : After Answer). record { tables = a.tables; words = w; answer = a.answer }) ea) v ev
+        (ap (λ (a : After Answered). record { tables = a.tables; words = w; answer = a.answer }) ea) v ev
 
     set_by : (k : SetCall) → due ≡ on_list (on_set k) → (l : List ℕ)
         → Moved (total c + 1) (links_after c k links) (record { links = l; answer = r })
-        → v ≡ unless_refused r Stays → record { tables = model_of l axis times marks; words = w; effect = v } ≡ performed c q f t w
+        → v ≡ unless_refused r (Ok Stays) → record { tables = model_of l axis times marks; words = w; effect = v } ≡ performed c q f t w
     unfolding tables_after
     set_by k ek l m ev =
         list_by (on_set k) ek (model_of l axis times marks)
@@ -93,8 +92,8 @@ module _ (c : Counts) (q : Record) (f : ℕ) (links axis times marks : List ℕ)
 
   -- ---- the arms
 
-  module _ (r : Answer) (v : Effect) where
-    module _ (l : List ℕ) (ev : v ≡ unless_refused r Stays) where
+  module _ (r : Answered) (v : Meant) where
+    module _ (l : List ℕ) (ev : v ≡ unless_refused r (Ok Stays)) where
       abbrev Sets : Type 0
       Sets = record { tables = model_of l axis times marks; words = w; effect = v } ≡ performed c q f t w
 
@@ -113,7 +112,7 @@ module _ (c : Counts) (q : Record) (f : ℕ) (links axis times marks : List ℕ)
       pub arm_5 : q.operation ≡ 5 → Moved (total c + 1) (clear_step c x links) (record { links = l; answer = r }) → Sets
       arm_5 e m = set_by 5 e (λ z. omega arith) r v (Clear x) (which.call_5 c links f q e) l m ev
 
-    module _ (a u : List ℕ) (ev : v ≡ unless_refused r Moves) where
+    module _ (a u : List ℕ) (ev : v ≡ unless_refused r (Ok Moves)) where
       abbrev Axis : Type 0
       Axis = record { tables = model_of links a u marks; words = w; effect = v } ≡ performed c q f t w
 
@@ -180,18 +179,18 @@ module _ (c : Counts) (q : Record) (f : ℕ) (links axis times marks : List ℕ)
 
     pub arm_13 : q.operation ≡ 13 → q.x ≤ 64 → (now : ℕ) → now ≡ time_of (half c) axis times → (u : List ℤ)
         → record { words = u; answer = r } ≡ updated_in q.x now q.t w
-        → v ≡ unless_refused r Stays → record { tables = t; words = u; effect = v } ≡ performed c q f t w
+        → v ≡ unless_refused r (Ok Stays) → record { tables = t; words = u; effect = v } ≡ performed c q f t w
     unfolding carried_out
     arm_13 e l now i u m ev =
-        by (accum q.x q.t) (which.call_13 c links f q e l) Stays (plain 13 e (λ z. omega arith) (accum q.x q.t))
+        by (accum q.x q.t) (which.call_13 c links f q e l) (Ok Stays) (plain 13 e (λ z. omega arith) (accum q.x q.t))
         (record { tables = t; words = u; answer = r })
         (ap (λ (b : Changed). record { tables = t; words = b.words; answer = b.answer })
         (m ∙ ap (λ (j : ℕ). updated_in q.x j q.t w) i)) v ev
 
-  pub arm_12 : q.operation ≡ 12 → (v : Effect) → v ≡ branched c q f links
+  pub arm_12 : q.operation ≡ 12 → (v : Meant) → v ≡ branched c q f links
       → record { tables = t; words = w; effect = v } ≡ performed c q f t w
   unfolding carried_out tables_after effect_of
   arm_12 e v ev =
-      by (on_list (if_empty x)) (which.call_12 c links f q e) (if empty_of x links then Jumps q.y else Stays)
+      by (on_list (if_empty x)) (which.call_12 c links f q e) (if empty_of x links then Ok (Jumps q.y) else (Ok Stays))
       (rw e)
-      (record { tables = t; words = w; answer = told_if (is_head c x) Done }) refl v ev
+      (record { tables = t; words = w; answer = told_if (is_head c x) (Ok Done) }) refl v ev

@@ -1,5 +1,5 @@
 -- One call on tables that spell a machine is the machine's call: for every accepted sheet, every such run and every trace buffer.
-use Rattle.std.specs.Prelude.{ℕ, zero, suc, ◌*◌, ◌/◌, ◌≤◌, ◌<◌, ◌≡◌, refl, true, List, ◌∷◌, length, get_or}
+use Rattle.std.specs.Prelude.{ℕ, zero, suc, ◌*◌, ◌/◌, ◌≤◌, ◌<◌, ◌≡◌, refl, true, List, ◌∷◌, length, get_or, Ok, Err}
 use Rattle.std.proofs.Common.{sym, ◌∙◌, subst, arith}
 use Rattle.std.proofs.Math.Path.{ap}
 use borrow.Author.Tests.{le-leb, lt-leb}
@@ -7,14 +7,11 @@ use Rattle.ring_laws.specs.Lists.{below}
 use Rattle.model.specs.declared.Counts.{Counts}
 use Rattle.model.specs.declared.Refusal.TheVariants.{Size}
 use Rattle.model.specs.Counts.{in_limits, both}
-use Rattle.model.specs.declared.verdict.Verdict.TheVariants.{Fine, Refused as Judged}
 use Rattle.model_laws.specs.Judge.{lengths_fine, judged, positions_judged}
 use Rattle.model_laws.proofs.Verdict.{judged_says, mean_sized}
 use Rattle.model_laws.proofs.PositionsVerdict.{positions_say}
-use Rattle.sheet.specs.declared.header.Checked.{Checked}
-use Rattle.sheet.specs.declared.header.Checked.TheVariants.{Accepted}
 use Rattle.sheet.specs.Sheet.{counts_of, records_of, Sheet, sheet_of}
-use Rattle.sheet.specs.Accepted.{header_of, accepted, checked}
+use Rattle.sheet.specs.Accepted.{Checked, header_of, accepted, checked}
 use Rattle.machine.specs.Machine.{Machine}
 use Rattle.machine.specs.Run.{call, line_size, trace_limit}
 use Rattle.machine.specs.Run as machine
@@ -41,10 +38,10 @@ module _ (bytes : List ℕ) (ok : accepted bytes ≡ true) (m : Machine) (u : Ru
   lengths : true ≡ lengths_fine c u.model
   lengths = sym (both (in_limits c) (lengths_fine c u.model) (mean_sized c u.model (sized c bytes u stood))).1
 
-  tables : Fine ≡ judged c u.model
+  tables : (Ok tt) ≡ judged c u.model
   tables = sym ((judged_says c u.model).fine (sized c bytes u stood) (m.lists, g.model))
 
-  positions : Fine ≡ positions_judged c (records_of bytes) u.positions
+  positions : (Ok tt) ≡ positions_judged c (records_of bytes) u.positions
   positions =
       sym ((positions_say c (records_of bytes) u.positions).fine (positions_length c bytes u stood)
       (record {
@@ -56,19 +53,19 @@ module _ (bytes : List ℕ) (ok : accepted bytes ≡ true) (m : Machine) (u : Ru
       at zero = omega arith
       at (suc i) = g.positions_in i
 
-  pub judged_short : (len : ℕ) → len ≤ trace_limit → run_judged c (records_of bytes) u len ≡ Fine
+  pub judged_short : (len : ℕ) → len ≤ trace_limit → run_judged c (records_of bytes) u len ≡ (Ok tt)
   judged_short len l =
       sym (tables_fine_lem c (records_of bytes) u len true lengths refl c.processes refl (positions_length c bytes u stood)
-      (words_length c bytes u stood) l Fine Fine tables refl positions)
+      (words_length c bytes u stood) l (Ok tt) (Ok tt) tables refl positions)
 
-  pub judged_long : (len : ℕ) → trace_limit < len → run_judged c (records_of bytes) u len ≡ Judged Size
+  pub judged_long : (len : ℕ) → trace_limit < len → run_judged c (records_of bytes) u len ≡ Err Size
   judged_long len l =
       sym (trace_size c (records_of bytes) u len true lengths refl c.processes refl (positions_length c bytes u stood)
       (words_length c bytes u stood) l)
 
   -- ---- the call
 
-  is_accepted : checked bytes ≡ Accepted (header_of bytes)
+  is_accepted : checked bytes ≡ Ok (header_of bytes)
   unfolding checked
   is_accepted = rw ok
 

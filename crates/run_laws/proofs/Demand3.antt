@@ -1,11 +1,10 @@
 -- Demand 3: one theorem about a whole list of run calls, refused ones included, for every accepted sheet and every list of trace buffers.
-use Rattle.std.specs.Prelude.{ℕ, ◌<◌, ◌≡◌, refl, true, length}
+use Rattle.std.specs.Prelude.{ℕ, ◌<◌, ◌≡◌, refl, true, length, Ok}
 use mathlib.Core.List.{List, [], ◌∷◌, Nodup}
 use Rattle.ring_laws.specs.Lists.{In}
 use Rattle.ring_laws.specs.Distinct.{joined}
 use Rattle.ring_laws.specs.Members.{dist_nodup}
 use Rattle.axis_laws.specs.Notices.{whos}
-use Rattle.model.specs.declared.verdict.Verdict.TheVariants.{Fine}
 use Rattle.sheet.specs.Sheet.{counts_of, records_of, sheet_of}
 use Rattle.sheet.specs.Accepted.{accepted}
 use Rattle.machine.specs.Machine.{Machine, fresh}
@@ -43,7 +42,7 @@ module _ (bytes : List ℕ) (ok : accepted bytes ≡ true) where
 
 -- a call from any tables that the judge passes, whoever wrote them, is the call of the machine that they spell
 pub any_run : (bytes : List ℕ) → accepted bytes ≡ true → (u : RunTables) (b : List ℕ)
-    → run_judged (counts_of bytes) (records_of bytes) u (length b) ≡ Fine
+    → run_judged (counts_of bytes) (records_of bytes) u (length b) ≡ (Ok tt)
     → (m : Machine) × Stands (counts_of bytes) (records_of bytes) m u × Agrees bytes b (call (sheet_of bytes) (length b) m) (run_on bytes u b)
 any_run bytes ok u b e =
     let s = passed_standing bytes (counts_of bytes) ok refl u (length b) (judged_fine (counts_of bytes) (records_of bytes) u (length b) e) in

@@ -1,16 +1,13 @@
 -- A run from call to call: each finds tables of a run and leaves such tables, with no more lines than the trace has room for.
 use Prim.Native.Nat.{ℕ, zero, suc, ◌+◌, ◌*◌, ◌/◌, ◌≤◌}
-use Rattle.std.specs.Prelude.{List, length}
+use Rattle.std.specs.Prelude.{List, length, Ok, Err}
 use Rattle.std.proofs.Common.{sym, subst}
 use native.Mathlib.Omega.{arith}
 use Rattle.ring_laws.specs.Lists.{test}
 use Rattle.model.specs.declared.Counts.{Counts}
-use Rattle.model.specs.declared.verdict.Verdict.{Verdict}
-use Rattle.model.specs.declared.verdict.Verdict.TheVariants.{Fine, Refused as Judged}
-use Rattle.sheet.specs.declared.header.Checked.{Checked}
-use Rattle.sheet.specs.declared.header.Checked.TheVariants.{Accepted, Refused as NotAccepted}
+use Rattle.model.specs.Answers.{Verdict}
 use Rattle.sheet.specs.Sheet.{records_of, sheet_of}
-use Rattle.sheet.specs.Accepted.{checked}
+use Rattle.sheet.specs.Accepted.{Checked, checked}
 use Rattle.machine.specs.Run.{call, line_size}
 use Rattle.run_laws.specs.Run.{RunTables, Turned, On, Off, step_on, ends_now, turns_on, run_judged, judged_run, checked_run, run_on}
 use Rattle.run_laws.specs.Standing.{Stands, Standing}
@@ -55,9 +52,9 @@ unfolding run_on
 run_room bytes u tr = by_sheet (checked bytes)
   where
     by_tables : (c : Counts) (v : Verdict) → line_size * (judged_run v c bytes u tr).result.lines ≤ length tr
-    by_tables c Fine = omega (arith, turns_room c bytes 0 (length tr / line_size) u tr)
-    by_tables c (Judged q) = omega arith
+    by_tables c (Ok tt) = omega (arith, turns_room c bytes 0 (length tr / line_size) u tr)
+    by_tables c (Err q) = omega arith
 
     by_sheet : (k : Checked) → line_size * (checked_run k bytes u tr).result.lines ≤ length tr
-    by_sheet (Accepted h) = by_tables h.counts (run_judged h.counts h.records u (length tr))
-    by_sheet (NotAccepted q) = omega arith
+    by_sheet (Ok h) = by_tables h.counts (run_judged h.counts h.records u (length tr))
+    by_sheet (Err q) = omega arith

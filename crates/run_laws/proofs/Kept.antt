@@ -1,25 +1,19 @@
 -- A refused run call that wrote no line changes no word, whatever the tables: turned down by 8, 1 or 2, or stopped by its first step. And a
 -- refused step keeps every word, whatever the tables.
 use Prim.Native.Nat.{ℕ, zero, suc, ◌*◌, ◌/◌, ◌≤◌}
-use Rattle.std.specs.Prelude.{◌≡◌, List, ℤ, length}
+use Rattle.std.specs.Prelude.{◌≡◌, List, ℤ, length, Ok, Err}
 use Rattle.std.proofs.Math.Path.{refl}
 use Rattle.std.proofs.Math.Bool.{true, false}
 use native.Mathlib.Omega.{arith}
 use Rattle.ring_laws.specs.Lists.{test, clash}
 use Rattle.model.specs.declared.Counts.{Counts}
 use Rattle.model.specs.declared.Refusal.{Refusal}
-use Rattle.model.specs.declared.answer.Answer.TheVariants.{Refused as NotDone}
-use Rattle.model.specs.declared.verdict.Verdict.{Verdict}
-use Rattle.model.specs.declared.verdict.Verdict.TheVariants.{Fine, Refused as Judged}
+use Rattle.model.specs.Answers.{Verdict}
 use Rattle.model_laws.specs.Tables.{Tables}
 use Rattle.model_laws.specs.Now.{half, first_of, time_of}
-use Rattle.accum_laws.specs.declared.Updated.{Updated}
-use Rattle.accum_laws.specs.declared.Updated.TheVariants.{To, Refused as NotUpdated}
-use Rattle.accum_laws.specs.Update.{updated_of}
+use Rattle.accum_laws.specs.Update.{Updated, updated_of}
 use Rattle.accum_laws.specs.Flat.{words_at, word_place, stored, updated_in}
-use Rattle.sheet.specs.declared.header.Checked.{Checked}
-use Rattle.sheet.specs.declared.header.Checked.TheVariants.{Accepted, Refused as NotAccepted}
-use Rattle.sheet.specs.Accepted.{checked}
+use Rattle.sheet.specs.Accepted.{Checked, checked}
 use Rattle.machine.specs.declared.End.TheVariants.{Refused}
 use Rattle.machine.specs.Calls.{Call, on_list, accum}
 use Rattle.machine.specs.Run.{line_size}
@@ -29,15 +23,15 @@ use Rattle.run_laws.specs.Run.{ends_now, RanOn, stopped_on, turns_on, judged_run
 -- ---- a call
 use Rattle.run_laws.specs.Kept.{lists_kept, turned_off}
 
-pub call_kept : (c : Counts) (k : Call) (t : Tables) (w : List ℤ) (r : Refusal) → (carried_out c k t w).answer ≡ NotDone r
+pub call_kept : (c : Counts) (k : Call) (t : Tables) (w : List ℤ) (r : Refusal) → (carried_out c k t w).answer ≡ Err r
     → ((carried_out c k t w).tables ≡ t) × ((carried_out c k t w).words ≡ w)
 unfolding carried_out updated_in
 call_kept c (on_list k) t w r e = (lists_kept c k t r e, refl)
 call_kept c (accum k d) t w r e = (refl, go (updated_of (words_at (word_place k) w) (time_of (half c) t.axis t.times) d) e)
   where
-    go : (u : Updated) → (stored u (word_place k) w).answer ≡ NotDone r → (stored u (word_place k) w).words ≡ w
-    go (To v) q = let z : false ≡ true = cc in clash z
-    go (NotUpdated q) p = refl
+    go : (u : Updated) → (stored u (word_place k) w).answer ≡ Err r → (stored u (word_place k) w).words ≡ w
+    go (Ok v) q = let z : false ≡ true = cc in clash z
+    go (Err q) p = refl
 
 module _ (c : Counts) (bytes : List ℕ) (i : ℕ) (u : RunTables) (tr : List ℕ) where
   abbrev its : Carried
@@ -112,10 +106,10 @@ run_kept bytes u tr r = by_sheet (checked bytes)
   where
     by_tables : (c : Counts) (v : Verdict) → (judged_run v c bytes u tr).result.lines ≡ 0 → (judged_run v c bytes u tr).result.end ≡ Refused r
         → ((judged_run v c bytes u tr).run ≡ u) × ((judged_run v c bytes u tr).trace ≡ tr)
-    by_tables c Fine a b = turns_kept c bytes (length tr / line_size) u tr r a b
-    by_tables c (Judged q) a b = (refl, refl)
+    by_tables c (Ok tt) a b = turns_kept c bytes (length tr / line_size) u tr r a b
+    by_tables c (Err q) a b = (refl, refl)
 
     by_sheet : (k : Checked) → (checked_run k bytes u tr).result.lines ≡ 0 → (checked_run k bytes u tr).result.end ≡ Refused r
         → ((checked_run k bytes u tr).run ≡ u) × ((checked_run k bytes u tr).trace ≡ tr)
-    by_sheet (Accepted h) a b = by_tables h.counts (run_judged h.counts h.records u (length tr)) a b
-    by_sheet (NotAccepted q) a b = (refl, refl)
+    by_sheet (Ok h) a b = by_tables h.counts (run_judged h.counts h.records u (length tr)) a b
+    by_sheet (Err q) a b = (refl, refl)

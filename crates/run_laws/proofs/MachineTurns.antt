@@ -1,6 +1,6 @@
 -- What a turn does, whatever its call: the lists stay those of well-formed tables, the notices move as History says, time does not go
 -- back, positions stay in the sheet, and accumulators as required.
-use Rattle.std.specs.Prelude.{◌-◌, ◌≤◌, refl, length, get_or}
+use Rattle.std.specs.Prelude.{◌-◌, ◌≤◌, refl, length, get_or, Ok, Err}
 use Rattle.std.proofs.Common.{ap, ◌∙◌, arith}
 use Rattle.std.proofs.Math.ListN.{length-set}
 use Rattle.ring_laws.specs.Lists.{In}
@@ -14,9 +14,7 @@ use Rattle.model_laws.specs.NowLaws.{splits}
 use Rattle.model_laws.specs.Result.{Follows, done, refused, Result}
 use Rattle.model_laws.specs.Now.{time}
 use Rattle.simulation_laws.specs.Forward.{Later}
-use Rattle.accum_laws.specs.declared.Updated.{Updated}
-use Rattle.accum_laws.specs.declared.Updated.TheVariants.{To, Refused as NotUpdated}
-use Rattle.accum_laws.specs.Update.{updated_of}
+use Rattle.accum_laws.specs.Update.{Updated, updated_of}
 use Rattle.accum_laws.specs.Keeps.{zero_accumulator, required_later}
 use Rattle.accum_laws.specs.Triples.{numbered, list_after, updated_at}
 use Rattle.accum_laws.specs.Runs.{Each}
@@ -65,7 +63,7 @@ module _ (c : Counts) (a : Allowed c) (m : Machine) (t : Tables) (s : Spells c m
       go (updated_of (numbered k m.triples) (time l) d) (each_kept k (time l) (time l) d m.triples (omega arith) q)
     where
       go : (u : Updated) → Each (list_after u k m.triples).list (time l) → Then (CallMade c (accum k d) m) (storing m k u)
-      go (To v) g =
+      go (Ok v) g =
           record {
             spelled = (t, s);
             notices = stepwise_same l.notices;
@@ -74,7 +72,7 @@ module _ (c : Counts) (a : Allowed c) (m : Machine) (t : Tables) (s : Spells c m
             triples_all = length-set m.triples (k - 1) v;
             required = g;
           }
-      go (NotUpdated r) g = tt
+      go (Err r) g = tt
 
 module _ (s : Sheet) (r : InRange s) (m : Machine) (g : Going s m) where
   its_call_lem : Then (CallMade s.counts (call_now s m) m) (perform s.counts (call_now s m) m)

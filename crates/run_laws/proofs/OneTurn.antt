@@ -1,16 +1,15 @@
 -- One turn as a whole: what its code leaves is `turn_on`, and what that makes of the turns that are left.
-use Rattle.std.specs.Prelude.{ℕ, ◌+◌, ◌*◌, ◌<◌, ◌≡◌, refl, ◌≢◌, Bool, true, false, ◌&&◌, List, eqb, length, get_or}
+use Rattle.std.specs.Prelude.{ℕ, ◌+◌, ◌*◌, ◌<◌, ◌≡◌, refl, ◌≢◌, Bool, true, false, ◌&&◌, List, eqb, length, get_or, Ok, Err}
 use Rattle.std.proofs.Common.{sym, ap, ◌∙◌, subst}
 use Rattle.ring_laws.specs.Lists.{test, clash}
 use Rattle.model.specs.declared.Counts.{Counts}
 use Rattle.model.specs.declared.Refusal.{Refusal}
-use Rattle.model.specs.declared.verdict.Verdict.TheVariants.{Fine, Refused as Judged}
 use Rattle.model_laws.specs.Now.{half, first_of}
 use Rattle.sheet.specs.Sheet.{record_offset}
 use Rattle.machine.specs.declared.End.TheVariants.{Finished, Refused as Ended}
 use Rattle.machine.specs.Run.{line_size}
-use Rattle.run_laws.specs.declared.Turn.TheVariants.{Finished as AtEnd, Made, Refused as NotMade}
-use Rattle.run_laws.specs.Run.{RunTables, run_of, Stepped, record_got, record_at_now, step_on, ends_now, TurnedOn, turn_by}
+use Rattle.run_laws.specs.declared.Turn.TheVariants.{Finished as AtEnd, Made}
+use Rattle.run_laws.specs.Run.{RunTables, run_of, Stepped, record_got, record_at_now, step_on, ends_now, TurnedOn, turn_by, Taken}
 use Rattle.run_laws.specs.Run.{turn_on, RanOn, stopped_on}
 use Rattle.run_laws.specs.Performed.{Performed, performed, verdict_by, goes_to, turned_to, refused_of}
 use Rattle.run_laws.specs.Tried.{apart}
@@ -42,7 +41,7 @@ module _ (c : Counts) (bytes : List ℕ) (u : RunTables) (s : Standing c bytes u
     ends : b ≡ ends_now c u.model.axis u.positions
     ends = ends_at c u.model.axis u.positions f ef r b er eb
 
-    pub turn_finished : b ≡ true → record { run = u; trace = tr; turn = AtEnd } ≡ turn_on c bytes i u tr
+    pub turn_finished : b ≡ true → record { run = u; trace = tr; turn = (Ok AtEnd) } ≡ turn_on c bytes i u tr
     unfolding turn_on
     turn_finished q = rw (sym ends ∙ q)
 
@@ -54,15 +53,15 @@ module _ (c : Counts) (bytes : List ℕ) (u : RunTables) (s : Standing c bytes u
       by_step o eo =
           rw (sym ends ∙ q) (ap (λ (z : Stepped). record { run = z.run; trace = z.trace; turn = turn_by z.turned }) eo)
 
-      pub turn_refused : (x : Refusal) → Judged x ≡ verdict_by p.effect
-          → record { run = run_of p.tables u.positions p.words; trace = tr; turn = NotMade x } ≡ turn_on c bytes i u tr
+      pub turn_refused : (x : Refusal) → Err x ≡ verdict_by p.effect
+          → record { run = run_of p.tables u.positions p.words; trace = tr; turn = Err x } ≡ turn_on c bytes i u tr
       turn_refused x v =
           by_step _ (step_off c bytes i u tr f ef r (at time et).record_is time (at time et).time_is p ep x (refused_of p.effect x v))
 
-      pub turn_made : Fine ≡ verdict_by p.effect → (to next : ℕ) → to ≡ (record_got c.processes bytes r).next
+      pub turn_made : (Ok tt) ≡ verdict_by p.effect → (to next : ℕ) → to ≡ (record_got c.processes bytes r).next
           → next ≡ goes_to p.effect to
           → (ps tr' : List ℕ) → Went c f time r i next u.positions tr ps tr'
-          → record { run = run_of p.tables ps p.words; trace = tr'; turn = Made } ≡ turn_on c bytes i u tr
+          → record { run = run_of p.tables ps p.words; trace = tr'; turn = (Ok Made) } ≡ turn_on c bytes i u tr
       turn_made v to next eto en ps tr' w =
           by_step _ (step_on_lem c bytes i u tr f ef r (at time et).record_is time (at time et).time_is p ep next
           (turned_to p.effect (record_got c.processes bytes r).next next v (en ∙ ap (goes_to p.effect) eto)) ps tr' w)
@@ -79,7 +78,7 @@ module _ (c : Counts) (bytes : List ℕ) (room n : ℕ) (whole : RanOn) (u₀ : 
   abbrev s : Stepped
   s = step_on c bytes (line_size * n) u tr
 
-  at_end_lem : ended ≡ true → o ≡ record { run = u; trace = tr; turn = AtEnd }
+  at_end_lem : ended ≡ true → o ≡ record { run = u; trace = tr; turn = (Ok AtEnd) }
   unfolding turn_on
   at_end_lem e = rw e at eo
 
@@ -90,14 +89,14 @@ module _ (c : Counts) (bytes : List ℕ) (room n : ℕ) (whole : RanOn) (u₀ : 
   turn_at : ended ≡ false → o.turn ≡ turn_by s.turned
   turn_at e = ap (λ (z : TurnedOn). z.turn) (at_step e)
 
-  pub turned_finished : (k : ℕ) → k ≡ n → o.turn ≡ AtEnd → stopped_on k Finished o.run o.trace ≡ whole
+  pub turned_finished : (k : ℕ) → k ≡ n → o.turn ≡ (Ok AtEnd) → stopped_on k Finished o.run o.trace ≡ whole
   turned_finished k ek v =
       test ended
       (λ e. ap (λ (z : TurnedOn). stopped_on k Finished z.run z.trace) (at_end_lem e)
       ∙ in_finished c bytes room n whole u₀ tr₀ u tr t h k ek e)
       (λ e. clash (no_end s.turned (sym (turn_at e) ∙ v)))
 
-  pub turned_refused : (k : ℕ) → k ≡ n → (x : Refusal) → o.turn ≡ NotMade x → stopped_on k (Ended x) o.run o.trace ≡ whole
+  pub turned_refused : (k : ℕ) → k ≡ n → (x : Refusal) → o.turn ≡ Err x → stopped_on k (Ended x) o.run o.trace ≡ whole
   turned_refused k ek x v =
       test ended
       (λ e. let z : false ≡ true = other (sym (ap (λ (z : TurnedOn). z.turn) (at_end_lem e)) ∙ v) in clash z)
@@ -105,10 +104,10 @@ module _ (c : Counts) (bytes : List ℕ) (room n : ℕ) (whole : RanOn) (u₀ : 
       ap (λ (z : TurnedOn). stopped_on k (Ended x) z.run z.trace) (at_step e)
       ∙ step_refused c bytes room n whole u₀ tr₀ u tr t h e s refl k ek x (off_by s.turned x (sym (turn_at e) ∙ v)))
     where
-      other : AtEnd ≡ NotMade x → false ≡ true
+      other : (Ok AtEnd) ≡ Err x → false ≡ true
       other e = cc
 
-  pub turned_made : o.turn ≡ Made → length o.trace ≡ length tr → Turning c bytes room (n + 1) whole u₀ tr₀ o.run o.trace
+  pub turned_made : o.turn ≡ (Ok Made) → length o.trace ≡ length tr → Turning c bytes room (n + 1) whole u₀ tr₀ o.run o.trace
   turned_made v z =
       test ended
       (λ e. let y : false ≡ true = other (sym (ap (λ (z : TurnedOn). z.turn) (at_end_lem e)) ∙ v) in clash y)
@@ -118,5 +117,5 @@ module _ (c : Counts) (bytes : List ℕ) (room n : ℕ) (whole : RanOn) (u₀ : 
       subst (λ (k : TurnedOn). Turning c bytes room (n + 1) whole u₀ tr₀ k.run k.trace) (sym (at_step e))
       (turning_on c bytes room n whole u₀ tr₀ u tr t h e s refl next q (sym (ap (λ (k : TurnedOn). length k.trace) (at_step e)) ∙ z))))
     where
-      other : AtEnd ≡ Made → false ≡ true
+      other : ◌≡◌ {A = Taken} (Ok AtEnd) (Ok Made) → false ≡ true
       other e = cc

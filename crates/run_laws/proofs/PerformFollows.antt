@@ -1,14 +1,12 @@
 -- Every call on tables that spell the machine does what the machine's call does, with the same refusals.
-use Rattle.std.specs.Prelude.{ℕ, List, ℤ}
+use Rattle.std.specs.Prelude.{ℕ, List, ℤ, Ok, Err}
 use Rattle.std.proofs.Math.Path.{refl, subst}
 use Rattle.std.proofs.Common.{sym, ap, ◌∙◌}
 use Rattle.model.specs.declared.Counts.{Counts}
 use Rattle.model_laws.specs.Tables.{Tables, Lists, Sized, Spells}
 use Rattle.model_laws.specs.Result.{Follows, done, refused, Result}
 use Rattle.model_laws.specs.Now.{time}
-use Rattle.accum_laws.specs.declared.Updated.{Updated}
-use Rattle.accum_laws.specs.declared.Updated.TheVariants.{To, Refused as NotUpdated}
-use Rattle.accum_laws.specs.Update.{updated_of}
+use Rattle.accum_laws.specs.Update.{Updated, updated_of}
 use Rattle.accum_laws.specs.Flat.{Changed, updated_in}
 use Rattle.accum_laws.specs.Triples.{flat, numbered, list_after, updated_at, flat_updated}
 use Rattle.machine.specs.Machine.{Machine}
@@ -44,5 +42,5 @@ module _ (c : Counts) (m : Machine) (t : Tables) (w : Sized c t) (s : Spells c m
       go : (u : Updated)
           → FollowsRun c t words (storing m k u)
           (record { tables = t; words = flat (list_after u k m.triples).list; answer = (list_after u k m.triples).answer })
-      go (To v) = (refl, s, refl)
-      go (NotUpdated q) = (refl, refl, refl)
+      go (Ok v) = (refl, s, refl)
+      go (Err q) = (refl, refl, refl)

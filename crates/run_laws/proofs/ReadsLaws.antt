@@ -1,5 +1,5 @@
 -- What the readers answer, from their tests.
-use Rattle.std.specs.Prelude.{ℕ, ◌+◌, ◌-◌, ◌≤◌, ◌<◌, ◌≡◌, ◌≢◌, Bool, true, ◌&&◌, List, leb, eqb, length, get_or}
+use Rattle.std.specs.Prelude.{ℕ, ◌+◌, ◌-◌, ◌≤◌, ◌<◌, ◌≡◌, ◌≢◌, Bool, true, ◌&&◌, List, leb, eqb, length, get_or, Ok, Err}
 use Rattle.std.proofs.Math.Path.{refl, ap}
 use Rattle.std.proofs.Common.{sym, ◌∙◌, ⊎_elim, arith}
 use Rattle.std.proofs.Math.Bool.{false}
@@ -15,8 +15,8 @@ use Rattle.sheet.specs.Accepted.{is_operand, operand_base}
 use Rattle.sheet.specs.Fields.{operand_kinds}
 use Rattle.run_laws.specs.OnTables.{member_at, operand_with}
 use Rattle.run_laws.specs.Run.{ends_now}
-use Rattle.run_laws.specs.declared.Effect.TheVariants.{Stays, Jumps, Refused}
-use Rattle.run_laws.specs.Performed.{branched}
+use Rattle.run_laws.specs.declared.Effect.TheVariants.{Stays, Jumps}
+use Rattle.run_laws.specs.Performed.{branched, jumping}
 use Rattle.run_laws.specs.Needs.{Resolvable}
 use Rattle.run_laws.specs.Reads.{and_false}
 
@@ -86,15 +86,15 @@ module _ (c : Counts) (links : List ℕ) (f v : ℕ) (z : Resolvable c links f) 
 -- ---- 12
 
 module _ (c : Counts) (q : Record) (f : ℕ) (links : List ℕ) (x : ℕ) (is : x ≡ operand_with c false links f q.x) where
-  pub branch_3 : is_head c x ≡ false → Refused Operand ≡ branched c q f links
+  pub branch_3 : is_head c x ≡ false → Err Operand ≡ branched c q f links
   branch_3 e = rw (ap (is_head c) (sym is) ∙ e)
 
   module _ (head : is_head c x ≡ true) (h : ℕ) (same : h ≡ x) where
     at : get_or links h 0 ≡ get_or links (operand_with c false links f q.x) 0
     at = ap (λ (j : ℕ). get_or links j 0) (same ∙ is)
 
-    pub branch_to : get_or links h 0 ≡ x → (y : ℕ) → y ≡ q.y → Jumps y ≡ branched c q f links
-    branch_to e y ey = ap Jumps ey ∙ (rw (ap (is_head c) (sym is) ∙ head, eq-eqb _ _ (sym at ∙ e ∙ is)))
+    pub branch_to : get_or links h 0 ≡ x → (y : ℕ) → y ≡ q.y → jumping y ≡ branched c q f links
+    branch_to e y ey = ap jumping ey ∙ (rw (ap (is_head c) (sym is) ∙ head, eq-eqb _ _ (sym at ∙ e ∙ is)))
 
-    pub branch_on : get_or links h 0 ≢ x → Stays ≡ branched c q f links
+    pub branch_on : get_or links h 0 ≢ x → (Ok Stays) ≡ branched c q f links
     branch_on n = rw (ap (is_head c) (sym is) ∙ head, ne_eqb _ _ (λ e. n (at ∙ e ∙ sym is)))

@@ -1,5 +1,5 @@
 -- The loop's variables: current's place, time and record beside the tables, and what a step makes of them.
-use Rattle.std.specs.Prelude.{ℕ, ◌+◌, ◌*◌, ◌<◌, ◌≡◌, refl, ◌≢◌, Bool, true, false, ◌&&◌, List, eqb, length, get_or}
+use Rattle.std.specs.Prelude.{ℕ, ◌+◌, ◌*◌, ◌<◌, ◌≡◌, refl, ◌≢◌, Bool, true, false, ◌&&◌, List, eqb, length, get_or, Err}
 use Rattle.std.proofs.Common.{sym, ap, ◌∙◌}
 use Rattle.model.specs.declared.Counts.{Counts}
 use Rattle.model.specs.declared.Refusal.{Refusal}
@@ -7,7 +7,6 @@ use Rattle.model_laws.specs.Now.{half, time_of, first_of}
 use Rattle.sheet.specs.Sheet.{record_offset}
 use Rattle.machine.specs.declared.End.TheVariants.{Refused}
 use Rattle.machine.specs.Run.{line_size}
-use Rattle.run_laws.specs.declared.Effect.TheVariants.{Refused as NotDone}
 use Rattle.run_laws.specs.Run.{RunTables, run_of, On, Off, Stepped, record_got, step_on, ends_now, RanOn, stopped_on}
 use Rattle.run_laws.specs.Performed.{Performed, performed, turned_by}
 use Rattle.run_laws.specs.Needs.{Performable}
@@ -31,7 +30,7 @@ module _ (c : Counts) (bytes : List ℕ) (room n : ℕ) (whole : RanOn) (u₀ : 
 
   module _ (h : n < room) (e : ends_now c u.model.axis u.positions ≡ false)
       (p : Performed) (ep : p ≡ performed c (record_got c.processes bytes r) f u.model u.words) where
-    pub turned_down_lem : (k : ℕ) → k ≡ n → (x : Refusal) → p.effect ≡ NotDone x
+    pub turned_down_lem : (k : ℕ) → k ≡ n → (x : Refusal) → p.effect ≡ Err x
         → stopped_on k (Refused x) (run_of p.tables u.positions p.words) tr ≡ whole
     turned_down_lem k ek x ex =
         step_refused c bytes room n whole u₀ tr₀ u tr t h e

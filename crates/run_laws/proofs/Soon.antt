@@ -1,9 +1,9 @@
 -- Activate with no clause or after a delay, in a stretch: made where x with no walk is a process or none, and else left.
-use Rattle.std.specs.Prelude.{ℕ, ◌≡◌, refl, Bool, true, false, not, List, ℤ, pos}
+use Rattle.std.specs.Prelude.{ℕ, ◌≡◌, refl, Bool, true, false, not, List, ℤ, pos, Ok}
 use Rattle.std.proofs.Common.{ap, ◌∙◌, subst}
 use Rattle.model.specs.declared.Counts.{Counts}
 use Rattle.model.specs.Counts.{is_process}
-use Rattle.model.specs.declared.answer.Answer.{Answer}
+use Rattle.model.specs.Answers.{Answered}
 use Rattle.model_laws.specs.Tables.{Tables, model_of}
 use Rattle.model_laws.specs.Now.{half}
 use Rattle.simset_laws.specs.Calls.{or_none}
@@ -12,9 +12,8 @@ use Rattle.simulation_laws.specs.Promise.{sqs, Answers}
 use Rattle.simulation_laws.specs.Calls.{timed_step}
 use Rattle.sheet.specs.declared.records.Record.{Record}
 use Rattle.run_laws.specs.OnTables.{operand_with}
-use Rattle.run_laws.specs.declared.Effect.{Effect}
 use Rattle.run_laws.specs.declared.Effect.TheVariants.{Moves, Apart}
-use Rattle.run_laws.specs.Performed.{unless_refused}
+use Rattle.run_laws.specs.Performed.{Meant, unless_refused}
 use Rattle.run_laws.specs.Tried.{at_hand, tried}
 use Rattle.run_laws.proofs.Tried.{here_soon, left_far, tried_not, tried_made}
 use Rattle.run_laws.proofs.Arms.{arm_10, arm_delay}
@@ -27,10 +26,10 @@ module _ (c : Counts) (q : Record) (f : ℕ) (links axis times marks : List ℕ)
   seen : ok ≡ at_hand c q f links
   seen = told ∙ ap (λ (v : ℕ). or_none (is_process c v) v) is
 
-  pub soon_left : not ok ≡ true → record { tables = t; words = w; effect = Apart } ≡ tried c q f t w known
+  pub soon_left : not ok ≡ true → record { tables = t; words = w; effect = (Ok Apart) } ≡ tried c q f t w known
   soon_left n = tried_not c q f t w known (left_far c q f links known op (failed ok (at_hand c q f links) seen n))
 
-  module _ (n : not ok ≡ false) (r : Answer) (v : Effect) (a u : List ℕ) (ev : v ≡ unless_refused r Moves) where
+  module _ (n : not ok ≡ false) (r : Answered) (v : Meant) (a u : List ℕ) (ev : v ≡ unless_refused r (Ok Moves)) where
     hand : at_hand c q f links ≡ true
     hand = passed ok (at_hand c q f links) seen n
 

@@ -9,7 +9,7 @@ use Rattle.ring_laws.specs.Lists.{test, clash}
 use Rattle.model.specs.declared.Counts.{Counts}
 use Rattle.model.specs.declared.Refusal.TheVariants.{Operand}
 use Rattle.model.specs.Counts.{main, is_head}
-use Rattle.model.specs.declared.answer.Answer.{Answer}
+use Rattle.model.specs.Answers.{Answered}
 use Rattle.model_laws.specs.Tables.{Tables, Lists, Spells}
 use Rattle.model_laws.specs.Now.{current, half, first_of}
 use Rattle.model_laws.specs.Result.{done, refused, Result}
@@ -152,10 +152,10 @@ module _ (bytes : List ℕ) (ok : accepted bytes ≡ true) (m : Machine) (u : Ru
       go (refused q) e w =
           subst (λ (v : Turned). StepIs (refused q) tr i (moved v (carried_out c (call_now s m) u.model (flat m.triples)) u.positions
           f tr i (line_in c u)))
-          (sym (ap (λ (a : Answer). turned_of a (due_in c bytes u).next) w.0))
+          (sym (ap (λ (a : Answered). turned_of a (due_in c bytes u).next) w.0))
           (refl, (λ j. run_of (w.1 j) u.positions ((w.2 ∙ sym g.words) j)), refl)
       go (done k) e w =
           subst (λ (v : Turned). StepIs (done k) tr i (moved v (carried_out c (call_now s m) u.model (flat m.triples)) u.positions f
           tr i (line_in c u)))
-          (sym (ap (λ (a : Answer). turned_of a (due_in c bytes u).next) w.0))
+          (sym (ap (λ (a : Answered). turned_of a (due_in c bytes u).next) w.0))
           (refl, stands_next k e _ _ w.1 w.2, ap (put tr i) (line_is bytes ok m u g))

@@ -1,13 +1,13 @@
 -- What the step's code leaves, from what its call came to.
-use Rattle.std.specs.Prelude.{ℕ, ◌≡◌, Bool, true, ◌&&◌, List, eqb, set, if◌then◌else◌}
+use Rattle.std.specs.Prelude.{ℕ, ◌≡◌, Bool, true, ◌&&◌, List, eqb, set, if◌then◌else◌, Ok, Err}
 use Rattle.std.proofs.Math.Path.{refl, sym, ap}
 use Rattle.std.proofs.Common.{◌∙◌, eqb-true}
 use Rattle.ring_laws.specs.Lists.{test, clash}
 use Rattle.model.specs.declared.Counts.{Counts}
 use Rattle.model.specs.declared.Refusal.{Refusal}
 use Rattle.model.specs.Counts.{linkage_at, both}
-use Rattle.model.specs.declared.answer.Answer.{Answer}
-use Rattle.model.specs.declared.answer.Answer.TheVariants.{Done, Linkage, Number, Truth, Refused as NotDone}
+use Rattle.model.specs.Answers.{Answered}
+use Rattle.model.specs.declared.answer.Answer.TheVariants.{Done, Linkage, Number, Truth}
 use Rattle.model_laws.specs.Now.{half, time_of, first_of}
 use Rattle.simset_laws.specs.Procedures.{empty_of}
 use Rattle.sheet.specs.declared.records.Record.{Record}
@@ -15,11 +15,10 @@ use Rattle.trace.specs.Lines.{put, line_bytes}
 use Rattle.machine.specs.Calls.{Call}
 use Rattle.machine.specs.Steps.{next_of}
 use Rattle.run_laws.specs.OnTables.{Carried, carried_out}
-use Rattle.run_laws.specs.declared.Effect.{Effect}
-use Rattle.run_laws.specs.declared.Effect.TheVariants.{Jumps, Refused}
+use Rattle.run_laws.specs.declared.Effect.TheVariants.{Jumps}
 use Rattle.run_laws.specs.Run.{RunTables, run_of, Turned, On, Off, record_got, resolved, call_due, turned_of, moved, record_at_now, due_in}
 use Rattle.run_laws.specs.Run.{line_in, step_on}
-use Rattle.run_laws.specs.Performed.{call_effect, stays_or_moves, effect_of, unless_refused, Performed, performed, turned_by}
+use Rattle.run_laws.specs.Performed.{Meant, call_effect, stays_or_moves, effect_of, unless_refused, Performed, performed, turned_by}
 use Rattle.run_laws.proofs.Which.{call_12}
 use Rattle.run_laws.specs.StepIs.{Went, stayed, keeps}
 
@@ -31,35 +30,29 @@ module _ (k : Call) (q : Record) (none : Bool) where
   goes_on =
       test (eqb q.operation 12 && none)
       (λ e. rw e refl)
-      (λ e. rw e (stays_or_moves (λ (v : Effect). On q.next ≡ turned_by v q.next) refl refl k))
+      (λ e. rw e (stays_or_moves (λ (v : Meant). On q.next ≡ turned_by v q.next) refl refl k))
 
-  turned_is : (a : Answer) → turned_of a (next_of q none) ≡ turned_by (unless_refused a (effect_of k q none)) q.next
+  turned_is : (a : Answered) → turned_of a (next_of q none) ≡ turned_by (unless_refused a (effect_of k q none)) q.next
   unfolding turned_of
-  turned_is Done = goes_on
-  turned_is (Linkage x) = goes_on
-  turned_is (Number n) = goes_on
-  turned_is (Truth b) = goes_on
-  turned_is (NotDone r) = refl
+  turned_is (Ok a) = goes_on
+  turned_is (Err r) = refl
 
 -- 12 stays
-still : (k : Call) (q : Record) (none : Bool) → (q.operation ≡ 12 → stayed (call_effect k) ≡ true) → (a : Answer)
+still : (k : Call) (q : Record) (none : Bool) → (q.operation ≡ 12 → stayed (call_effect k) ≡ true) → (a : Answered)
     → stayed (unless_refused a (effect_of k q none)) ≡ true → stayed (call_effect k) ≡ true
 unfolding effect_of
 still k q none twelve = go
   where
-    on : stayed (if eqb q.operation 12 && none then Jumps q.y else call_effect k) ≡ true → stayed (call_effect k) ≡ true
+    on : stayed (if eqb q.operation 12 && none then Ok (Jumps q.y) else call_effect k) ≡ true → stayed (call_effect k) ≡ true
     on e =
         test (eqb q.operation 12 && none)
         (λ b. twelve (eqb-true q.operation 12 (both (eqb q.operation 12) none b).0))
         (λ b. rw b at e)
 
-    go : (a : Answer) → stayed (unless_refused a (if eqb q.operation 12 && none then Jumps q.y else call_effect k)) ≡ true
+    go : (a : Answered) → stayed (unless_refused a (if eqb q.operation 12 && none then Ok (Jumps q.y) else call_effect k)) ≡ true
         → stayed (call_effect k) ≡ true
-    go Done e = on e
-    go (Linkage x) e = on e
-    go (Number n) e = on e
-    go (Truth b) e = on e
-    go (NotDone r) e = clash e
+    go (Ok a) e = on e
+    go (Err r) e = clash e
 
 module _
     (c : Counts) (bytes : List ℕ) (i : ℕ) (u : RunTables) (tr : List ℕ)
@@ -104,9 +97,9 @@ module _
       ∙ ap (λ (o : Performed). moved (turned_of a.answer (next_of q none)) (carried o) u.positions (first_of (half c) u.model.axis)
       tr i (line_in c u)) same
 
-  pub step_off : (x : Refusal) → p.effect ≡ Refused x
+  pub step_off : (x : Refusal) → p.effect ≡ Err x
       → record { run = run_of p.tables u.positions p.words; trace = tr; turned = Off x } ≡ step_on c bytes i u tr
-  step_off x e = step_is (Off x) (ap (λ (v : Effect). turned_by v q.next) e)
+  step_off x e = step_is (Off x) (ap (λ (v : Meant). turned_by v q.next) e)
 
   pub step_on_lem : (next : ℕ) → turned_by p.effect (record_got c.processes bytes r).next ≡ On next → (ps tr' : List ℕ)
       → Went c f time r i next u.positions tr ps tr'

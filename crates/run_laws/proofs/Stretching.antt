@@ -1,5 +1,5 @@
 -- A stretch of turns: while a process stays current its position is kept beside the tables, and is put there when the stretch ends.
-use Rattle.std.specs.Prelude.{ℕ, ◌+◌, ◌*◌, ◌-◌, ◌/◌, ◌≤◌, ◌<◌, ◌≡◌, refl, ◌≢◌, Bool, true, false, ◌&&◌, List, eqb, length, get_or, set}
+use Rattle.std.specs.Prelude.{ℕ, ◌+◌, ◌*◌, ◌-◌, ◌/◌, ◌≤◌, ◌<◌, ◌≡◌, refl, ◌≢◌, Bool, true, false, ◌&&◌, List, eqb, length, get_or, set, Err}
 use Rattle.std.proofs.Common.{sym, ap, subst, ◌∙◌, arith, length-set, set-set, ne_eqb}
 use Rattle.ring_laws.specs.Lists.{clash}
 use Rattle.model.specs.declared.Counts.{Counts}
@@ -13,7 +13,6 @@ use Rattle.trace.specs.Fits.{past_last}
 use Rattle.trace.specs.Lines.{put, line_bytes}
 use Rattle.machine.specs.declared.End.TheVariants.{Refused as Ended}
 use Rattle.machine.specs.Run.{line_size, trace_limit}
-use Rattle.run_laws.specs.declared.Effect.TheVariants.{Refused}
 use Rattle.run_laws.specs.declared.Pause.TheVariants.{Refused as Stopped}
 use Rattle.run_laws.specs.Run.{RunTables, run_of, On, record_got, ends_now, RanOn, stopped_on, turns_on}
 use Rattle.run_laws.specs.Performed.{Performed, performed, turned_by}
@@ -114,7 +113,7 @@ module _ (c : Counts) (bytes : List ℕ) (end stop n₀ : ℕ) (whole : RanOn) (
             let y : true ≡ false = sym z ∙ not_left c (record_got c.processes bytes r) f u.model u.words known p is m in
             clash (sym y)
 
-    pub stopped : (x : Refusal) → p.effect ≡ Refused x → (ps : List ℕ) → ps ≡ set u.positions f r
+    pub stopped : (x : Refusal) → p.effect ≡ Err x → (ps : List ℕ) → ps ≡ set u.positions f r
         → Paused c bytes room n₀ whole tr₀ (run_of p.tables ps p.words) tr (record { at = at; pause = Stopped x })
     stopped x e ps eps =
         record {

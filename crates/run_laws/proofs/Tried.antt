@@ -1,6 +1,6 @@
 -- The calls that a stretch of turns makes itself, and those that are made apart. It is a matter of speed alone: what a call leaves is
 -- `performed` for all of them.
-use Rattle.std.specs.Prelude.{ℕ, ◌≡◌, ◌≢◌, Bool, ◌&&◌, ◌||◌, List, ℤ, if◌then◌else◌}
+use Rattle.std.specs.Prelude.{ℕ, ◌≡◌, ◌≢◌, Bool, ◌&&◌, ◌||◌, List, ℤ, if◌then◌else◌, Ok, Err}
 use Rattle.std.proofs.Math.Path.{refl, sym, ap}
 use Rattle.std.proofs.Common.{◌∙◌}
 use Rattle.std.proofs.Math.Bool.{true, false, not}
@@ -8,17 +8,16 @@ use Rattle.std.proofs.Math.Dec.{eqb}
 use borrow.Author.Tests.{ne_eqb, eqb-true}
 use Rattle.ring_laws.specs.Lists.{test, clash}
 use Rattle.model.specs.declared.Counts.{Counts}
-use Rattle.model.specs.declared.answer.Answer.{Answer}
-use Rattle.model.specs.declared.answer.Answer.TheVariants.{Done, Linkage, Number, Truth, Refused as NotDone}
+use Rattle.model.specs.Answers.{Answered}
+use Rattle.model.specs.declared.answer.Answer.TheVariants.{Done, Linkage, Number, Truth}
 use Rattle.model_laws.specs.Tables.{Tables}
 use Rattle.simset_laws.specs.Procedures.{empty_of}
 use Rattle.sheet.specs.declared.records.Record.{Record}
 use Rattle.machine.specs.Calls.{Call}
 use Rattle.run_laws.specs.OnTables.{carried_out}
-use Rattle.run_laws.specs.declared.Effect.{Effect}
 use Rattle.run_laws.specs.declared.Effect.TheVariants.{Jumps, Apart}
 use Rattle.run_laws.specs.Run.{resolved, call_due}
-use Rattle.run_laws.specs.Performed.{call_effect, stays_or_moves, effect_of, unless_refused, Performed, performed}
+use Rattle.run_laws.specs.Performed.{Meant, call_effect, stays_or_moves, effect_of, unless_refused, Performed, performed}
 use Rattle.run_laws.specs.Tried.{made_here, apart, made_soon, at_hand, enters, left, tried, is_apart}
 
 -- ---- by the operation
@@ -75,7 +74,7 @@ module _ (c : Counts) (q : Record) (f : ℕ) (links : List ℕ) (known : Bool) w
       entering false e i = ap (λ (o : ℕ). not (made_here o)) (eqb-true q.operation 8 i)
 
 module _ (c : Counts) (q : Record) (f : ℕ) (t : Tables) (w : List ℤ) (known : Bool) where
-  pub tried_not : left c q f t.links known ≡ true → record { tables = t; words = w; effect = Apart } ≡ tried c q f t w known
+  pub tried_not : left c q f t.links known ≡ true → record { tables = t; words = w; effect = (Ok Apart) } ≡ tried c q f t w known
   unfolding tried
   tried_not e = rw e
 
@@ -83,20 +82,17 @@ module _ (c : Counts) (q : Record) (f : ℕ) (t : Tables) (w : List ℤ) (known 
   unfolding tried
   tried_made e o eo = rw e eo
 
-  never : (k : Call) (none : Bool) (a : Answer) → is_apart (unless_refused a (effect_of k q none)) ≡ false
+  never : (k : Call) (none : Bool) (a : Answered) → is_apart (unless_refused a (effect_of k q none)) ≡ false
   unfolding effect_of
   never k none = go
     where
-      on : is_apart (if eqb q.operation 12 && none then Jumps q.y else call_effect k) ≡ false
+      on : is_apart (if eqb q.operation 12 && none then Ok (Jumps q.y) else call_effect k) ≡ false
       on = test (eqb q.operation 12 && none) (λ e. rw e refl)
-          (λ e. rw e (stays_or_moves (λ (v : Effect). is_apart v ≡ false) refl refl k))
+          (λ e. rw e (stays_or_moves (λ (v : Meant). is_apart v ≡ false) refl refl k))
 
-      go : (a : Answer) → is_apart (unless_refused a (if eqb q.operation 12 && none then Jumps q.y else call_effect k)) ≡ false
-      go Done = on
-      go (Linkage x) = on
-      go (Number n) = on
-      go (Truth b) = on
-      go (NotDone r) = refl
+      go : (a : Answered) → is_apart (unless_refused a (if eqb q.operation 12 && none then Ok (Jumps q.y) else call_effect k)) ≡ false
+      go (Ok a) = on
+      go (Err r) = refl
 
   made_here_lem : is_apart (performed c q f t w).effect ≡ false
   unfolding performed

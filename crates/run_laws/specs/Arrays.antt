@@ -1,11 +1,10 @@
 -- Local arrays of the greatest lengths, for a caller that keeps a run's tables: their first parts have a sheet's lengths.
-use Rattle.std.specs.Prelude.{ℕ, ◌+◌, ◌*◌, ◌≤◌, ◌≡◌, List, pos, length, take, replicate}
+use Rattle.std.specs.Prelude.{ℕ, ◌+◌, ◌*◌, ◌≤◌, ◌≡◌, List, pos, length, take, replicate, Ok}
 use Rattle.std.proofs.Common.{sym, ap, ◌∙◌, subst, arith, eq-eqb}
 use Rattle.std.proofs.lemmas.List.{length-replicate}
 use Rattle.model.specs.Counts.{Allowed, total}
 use Rattle.model_laws.specs.Judge.{lengths_fine}
 use Rattle.sheet.specs.declared.header.Header.{Header}
-use Rattle.sheet.specs.declared.header.Checked.TheVariants.{Accepted}
 use Rattle.sheet.specs.Accepted.{checked}
 use Rattle.sheet.specs.Ranges.{checked_yes, allowed_counts}
 use Rattle.run_laws.specs.Run.{RunTables, run_words}
@@ -15,13 +14,13 @@ use Rattle.run_laws.specs.Parts.{part_length}
 use Rattle.machine.specs.Run.{trace_limit}
 
 -- the counts of an accepted sheet are in their limits
-pub header_allowed : (bytes : List ℕ) (h : Header) → checked bytes ≡ Accepted h → Allowed h.counts
+pub header_allowed : (bytes : List ℕ) (h : Header) → checked bytes ≡ Ok h → Allowed h.counts
 header_allowed bytes h e =
     let y = checked_yes bytes h e in
     subst Allowed (sym (ap (λ (k : Header). k.counts) y.1)) (allowed_counts bytes y.0)
 
 -- tables of these lengths will do
-pub startable : (h : Header) (bytes : List ℕ) (u : RunTables) (tr : List ℕ) → checked bytes ≡ Accepted h → length tr ≤ trace_limit
+pub startable : (h : Header) (bytes : List ℕ) (u : RunTables) (tr : List ℕ) → checked bytes ≡ Ok h → length tr ≤ trace_limit
     → length u.model.links ≡ 2 * (total h.counts + 1) → length u.model.axis ≡ 2 * (h.counts.processes + 2)
     → length u.model.times ≡ h.counts.processes + 1 → length u.model.marks ≡ h.counts.processes + 1
     → length u.positions ≡ h.counts.processes + 1 → length u.words ≡ run_words → Startable h bytes u tr
@@ -35,7 +34,7 @@ startable h bytes u tr ok short l a t m p w =
 
 -- ---- the local arrays, cut to N = H + P + L and P
 
-module _ (bytes : List ℕ) (h : Header) (ok : checked bytes ≡ Accepted h) (N : ℕ) (eN : N ≡ total h.counts) (P : ℕ)
+module _ (bytes : List ℕ) (h : Header) (ok : checked bytes ≡ Ok h) (N : ℕ) (eN : N ≡ total h.counts) (P : ℕ)
     (eP : P ≡ h.counts.processes) where
   its : Allowed h.counts
   its = header_allowed bytes h ok

@@ -1,5 +1,5 @@
 -- The loops and calls that fill the tables of a fresh run.
-use Rattle.std.specs.Prelude.{ℕ, zero, suc, ◌+◌, ◌*◌, ◌≤◌, ◌<◌, ◌≡◌, refl, ◌≢◌, List, ℤ, pos, length, get_or, set, if◌then◌else◌}
+use Rattle.std.specs.Prelude.{ℕ, zero, suc, ◌+◌, ◌*◌, ◌≤◌, ◌<◌, ◌≡◌, refl, ◌≢◌, List, ℤ, pos, length, get_or, set, if◌then◌else◌, Ok, Err}
 use Rattle.std.proofs.Math.Path.{sym, ap}
 use Rattle.std.proofs.Common.{◌∙◌, subst, arith, length-set, ext_get_or, get_or-set_same, get_or-set_other}
 use Rattle.std.proofs.Math.Bool.{true, false}
@@ -12,16 +12,13 @@ use Rattle.model.specs.declared.Counts.{Counts}
 use Rattle.model.specs.declared.Refusal.{Refusal}
 use Rattle.model.specs.declared.Refusal.TheVariants.{Size}
 use Rattle.model.specs.Counts.{in_limits, allowed_limits}
-use Rattle.model.specs.declared.verdict.Verdict.{Verdict}
-use Rattle.model.specs.declared.verdict.Verdict.TheVariants.{Fine, Refused as Judged}
+use Rattle.model.specs.Answers.{Verdict}
 use Rattle.model_laws.specs.Tables.{Tables, After}
 use Rattle.model_laws.specs.Judge.{lengths_fine}
 use Rattle.model_laws.specs.Fresh.{fresh_tables, freshed}
 use Rattle.sheet.specs.declared.header.Header.{Header}
-use Rattle.sheet.specs.declared.header.Checked.{Checked}
-use Rattle.sheet.specs.declared.header.Checked.TheVariants.{Accepted, Refused as NotAccepted}
 use Rattle.sheet.specs.Sheet.{counts_of, start_offset, start_at, header_bytes}
-use Rattle.sheet.specs.Accepted.{checked}
+use Rattle.sheet.specs.Accepted.{Checked, checked}
 use Rattle.sheet.specs.Ranges.{checked_yes, allowed_counts, exact_length}
 use Rattle.run_laws.specs.Run.{run_of, RunTables, run_words}
 use Rattle.run_laws.specs.Fresh.{starts_are, fresh_run, Filled, sizes_fine, filled_for, filled}
@@ -108,7 +105,7 @@ module _ (bytes : List ℕ) (n : ℕ) (ps : List ℕ) (p : ℕ) (z : Starting by
 
 module _ (bytes : List ℕ) (u : RunTables) (h : Header) where
   pub fill_positions : (p : ℕ) → p ≡ h.counts.processes → length u.positions ≢ p + 1
-      → record { run = u; answer = Judged Size } ≡ filled_for (Accepted h) bytes u
+      → record { run = u; answer = Err Size } ≡ filled_for (Ok h) bytes u
   unfolding sizes_fine
   fill_positions p e n = rw (ne_eqb (length u.positions) (h.counts.processes + 1) (λ q. n (q ∙ ap (λ (k : ℕ). k + 1) (sym e))))
 
@@ -116,11 +113,11 @@ module _ (bytes : List ℕ) (u : RunTables) (h : Header) where
     pub at : length u.positions ≡ h.counts.processes + 1
     at = np ∙ ap (λ (k : ℕ). k + 1) e
 
-    pub fill_words : length u.words ≢ run_words → record { run = u; answer = Judged Size } ≡ filled_for (Accepted h) bytes u
+    pub fill_words : length u.words ≢ run_words → record { run = u; answer = Err Size } ≡ filled_for (Ok h) bytes u
     unfolding sizes_fine
     fill_words n = rw (eq-eqb (length u.positions) (h.counts.processes + 1) at, ne_eqb (length u.words) run_words n)
 
-    module _ (nw : length u.words ≡ run_words) (ok : checked bytes ≡ Accepted h) where
+    module _ (nw : length u.words ≡ run_words) (ok : checked bytes ≡ Ok h) where
       allowed : in_limits h.counts ≡ true
       allowed =
           let y = checked_yes bytes h ok in
@@ -136,47 +133,47 @@ module _ (bytes : List ℕ) (u : RunTables) (h : Header) where
       -- by the model's answer
       model_says : freshed h.counts u.model
           ≡ (if lengths_fine h.counts u.model
-          then record { tables = fresh_tables h.counts; answer = Fine }
-          else record { tables = u.model; answer = Judged Size })
+          then record { tables = fresh_tables h.counts; answer = Ok tt }
+          else record { tables = u.model; answer = Err Size })
       unfolding freshed
       model_says = rw allowed
 
-      pub fill_model : (t : Tables) (q : Refusal) (v : Verdict) → v ≡ Judged q
+      pub fill_model : (t : Tables) (q : Refusal) (v : Verdict) → v ≡ Err q
           → record { tables = t; answer = v } ≡ freshed h.counts u.model
-          → record { run = run_of t u.positions u.words; answer = Judged q } ≡ filled_for (Accepted h) bytes u
+          → record { run = run_of t u.positions u.words; answer = Err q } ≡ filled_for (Ok h) bytes u
       unfolding sizes_fine
       fill_model t q v ev g =
-          let f : record { tables = t; answer = Judged q } ≡ freshed h.counts u.model =
+          let f : record { tables = t; answer = Err q } ≡ freshed h.counts u.model =
           sym (ap (λ (w : Verdict). record { tables = t; answer = w }) ev) ∙ g in
           test (lengths_fine h.counts u.model)
-          (λ l. let z : record { tables = t; answer = Judged q } ≡ record { tables = fresh_tables h.counts; answer = Fine } = f
+          (λ l. let z : record { tables = t; answer = Err q } ≡ record { tables = fresh_tables h.counts; answer = Ok tt } = f
           ∙ model_says ∙ (rw l) in
-          let w : Judged q ≡ Fine = ap (λ (a : After Verdict). a.answer) z in let y : false ≡ true = cc in clash y)
-          (λ l. let z : record { tables = t; answer = Judged q } ≡ record { tables = u.model; answer = Judged Size } = f ∙ model_says
+          let w : Err q ≡ (Ok tt) = ap (λ (a : After Verdict). a.answer) z in let y : false ≡ true = cc in clash y)
+          (λ l. let z : record { tables = t; answer = Err q } ≡ record { tables = u.model; answer = Err Size } = f ∙ model_says
           ∙ (rw l) in
           rw (eq-eqb (length u.positions) (h.counts.processes + 1) at, eq-eqb (length u.words) run_words nw, l)
           (ap (λ (a : After Verdict). record { run = run_of a.tables u.positions u.words; answer = a.answer }) z))
 
-      pub fill_all : (t : Tables) (ps : List ℕ) (w : List ℤ) (v : Verdict) → v ≡ Fine
+      pub fill_all : (t : Tables) (ps : List ℕ) (w : List ℤ) (v : Verdict) → v ≡ (Ok tt)
           → record { tables = t; answer = v } ≡ freshed h.counts u.model
           → ps ≡ starts_are h.counts.processes bytes → w ≡ replicate (length u.words) (pos 0)
-          → record { run = run_of t ps w; answer = Fine } ≡ filled_for (Accepted h) bytes u
+          → record { run = run_of t ps w; answer = Ok tt } ≡ filled_for (Ok h) bytes u
       unfolding sizes_fine fresh_run
       fill_all t ps w v ev f eps ew =
           test (lengths_fine h.counts u.model)
-          (λ l. let z : record { tables = t; answer = v } ≡ record { tables = fresh_tables h.counts; answer = Fine } = f ∙ model_says
+          (λ l. let z : record { tables = t; answer = v } ≡ record { tables = fresh_tables h.counts; answer = Ok tt } = f ∙ model_says
           ∙ (rw l) in
           let y : t ≡ fresh_tables h.counts = ap (λ (a : After Verdict). a.tables) z in
           rw (eq-eqb (length u.positions) (h.counts.processes + 1) at, eq-eqb (length u.words) run_words nw, l)
-          (λ i. record { run = run_of (y i) (eps i) ((ew ∙ ap (λ (n : ℕ). replicate n (pos 0)) nw) i); answer = Fine }))
-          (λ l. let z : record { tables = t; answer = v } ≡ record { tables = u.model; answer = Judged Size } = f ∙ model_says ∙ (rw l) in
-          let w : Fine ≡ Judged Size = sym ev ∙ ap (λ (a : After Verdict). a.answer) z in let y : false ≡ true = cc in clash y)
+          (λ i. record { run = run_of (y i) (eps i) ((ew ∙ ap (λ (n : ℕ). replicate n (pos 0)) nw) i); answer = Ok tt }))
+          (λ l. let z : record { tables = t; answer = v } ≡ record { tables = u.model; answer = Err Size } = f ∙ model_says ∙ (rw l) in
+          let w : (Ok tt) ≡ Err Size = sym ev ∙ ap (λ (a : After Verdict). a.answer) z in let y : false ≡ true = cc in clash y)
 
 module _ (bytes : List ℕ) (u : RunTables) (k : Checked) (ek : k ≡ checked bytes) where
-  pub filled_8 : (q : Refusal) → k ≡ NotAccepted q → record { run = u; answer = Judged q } ≡ filled bytes u
+  pub filled_8 : (q : Refusal) → k ≡ Err q → record { run = u; answer = Err q } ≡ filled bytes u
   unfolding filled
   filled_8 q e = sym (ap (λ (w : Checked). filled_for w bytes u) (sym ek ∙ e))
 
-  pub filled_accepted : (h : Header) (o : Filled) → k ≡ Accepted h → o ≡ filled_for (Accepted h) bytes u → o ≡ filled bytes u
+  pub filled_accepted : (h : Header) (o : Filled) → k ≡ Ok h → o ≡ filled_for (Ok h) bytes u → o ≡ filled bytes u
   unfolding filled
   filled_accepted h o e f = f ∙ sym (ap (λ (w : Checked). filled_for w bytes u) (sym ek ∙ e))

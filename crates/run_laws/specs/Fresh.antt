@@ -1,20 +1,17 @@
 -- "a fresh run starts with the sheet's starts, the fresh model and zeros": its tables, and that they are the fresh machine's.
-use Rattle.std.specs.Prelude.{ℕ, zero, suc, ◌+◌, ◌*◌, ◌≤◌, ◌≡◌, refl, Bool, true, ◌&&◌, List, ◌∷◌, eqb, ℤ, pos, length, get_or, replicate, if◌then◌else◌}
+use Rattle.std.specs.Prelude.{ℕ, zero, suc, ◌+◌, ◌*◌, ◌≤◌, ◌≡◌, refl, Bool, true, ◌&&◌, List, ◌∷◌, eqb, ℤ, pos, length, get_or, replicate, if◌then◌else◌, Ok, Err}
 use Rattle.std.proofs.Common.{ap, ◌∙◌, subst, arith}
 use Rattle.std.proofs.lemmas.List.{length-replicate}
 use Rattle.ring_laws.specs.Tabulate.{listed}
 use Rattle.model.specs.declared.Counts.{Counts}
 use Rattle.model.specs.declared.Refusal.TheVariants.{Size}
-use Rattle.model.specs.declared.verdict.Verdict.{Verdict}
-use Rattle.model.specs.declared.verdict.Verdict.TheVariants.{Fine, Refused as Judged}
+use Rattle.model.specs.Answers.{Verdict}
 use Rattle.model_laws.specs.Judge.{lengths_fine}
 use Rattle.model_laws.specs.Fresh.{fresh_tables, fresh_spells}
 use Rattle.accum_laws.specs.Keeps.{zero_accumulator}
 use Rattle.accum_laws.specs.Triples.{flat}
-use Rattle.sheet.specs.declared.header.Checked.{Checked}
-use Rattle.sheet.specs.declared.header.Checked.TheVariants.{Accepted, Refused as NotAccepted}
 use Rattle.sheet.specs.Sheet.{counts_of, records_of, start_at, sheet_of}
-use Rattle.sheet.specs.Accepted.{accepted, checked}
+use Rattle.sheet.specs.Accepted.{Checked, accepted, checked}
 use Rattle.sheet.specs.Ranges.{records_listed}
 use Rattle.machine.specs.Machine.{fresh}
 use Rattle.run_laws.specs.MachineLaws.{accepted_range}
@@ -37,9 +34,9 @@ unfoldable pub sizes_fine : Counts → RunTables → Bool
 sizes_fine c u = eqb (length u.positions) (c.processes + 1) && (eqb (length u.words) run_words && lengths_fine c u.model)
 
 abbrev pub filled_for : Checked → List ℕ → RunTables → Filled
-filled_for (Accepted h) bytes u =
-    if sizes_fine h.counts u then record { run = fresh_run h.counts bytes; answer = Fine } else record { run = u; answer = Judged Size }
-filled_for (NotAccepted r) bytes u = record { run = u; answer = Judged r }
+filled_for (Ok h) bytes u =
+    if sizes_fine h.counts u then record { run = fresh_run h.counts bytes; answer = Ok tt } else record { run = u; answer = Err Size }
+filled_for (Err r) bytes u = record { run = u; answer = Err r }
 
 unfoldable pub filled : List ℕ → RunTables → Filled
 filled bytes u = filled_for (checked bytes) bytes u

@@ -2,13 +2,13 @@
 use Prim.Native.Nat.{ℕ}
 use Rattle.std.specs.Prelude.{◌≡◌, List}
 use Rattle.std.proofs.Common.{ap, ◌∙◌}
-use Rattle.model.specs.declared.verdict.Verdict.{Verdict}
+use Rattle.model.specs.Answers.{Verdict}
 use Rattle.sheet.specs.declared.header.Header.{Header}
-use Rattle.sheet.specs.declared.header.Checked.{Checked}
 use Rattle.run_laws.specs.Run.{RunTables}
 use Rattle.run_laws.specs.Standing.{Standing}
 use Rattle.run_laws.specs.Fresh.{filled_for, filled}
 use Rattle.run_laws.specs.Starting.{Startable, filled_standing}
+use Rattle.sheet.specs.Accepted.{Checked}
 
 -- the tables of a fresh run are some machine's
 pub fresh_stands_on : (h : Header) (bytes : List ℕ) (u : RunTables) (tr : List ℕ) → Startable h bytes u tr → (v : RunTables) (a : Verdict)

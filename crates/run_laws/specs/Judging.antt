@@ -1,5 +1,5 @@
 -- The judge of a run: its answer from the code's tests, and that a run it passes is some machine's.
-use Rattle.std.specs.Prelude.{ℕ, zero, suc, ◌+◌, ◌*◌, ◌≤◌, ◌<◌, ◌≡◌, refl, ◌≢◌, Bool, true, false, not, ◌&&◌, List, [], ◌∷◌, leb, eqb, ℤ, length, get_or, drop}
+use Rattle.std.specs.Prelude.{ℕ, zero, suc, ◌+◌, ◌*◌, ◌≤◌, ◌<◌, ◌≡◌, refl, ◌≢◌, Bool, true, false, not, ◌&&◌, List, [], ◌∷◌, leb, eqb, ℤ, length, get_or, drop, Ok, Err}
 use Rattle.std.proofs.Math.Path.{sym, ap}
 use Rattle.std.proofs.Common.{◌∙◌, subst, arith}
 use Rattle.std.proofs.Math.ListN.{get_or-eq_default}
@@ -9,8 +9,7 @@ use Rattle.model.specs.declared.Counts.{Counts}
 use Rattle.model.specs.declared.Refusal.{Refusal}
 use Rattle.model.specs.declared.Refusal.TheVariants.{Size}
 use Rattle.model.specs.Counts.{both}
-use Rattle.model.specs.declared.verdict.Verdict.{Verdict}
-use Rattle.model.specs.declared.verdict.Verdict.TheVariants.{Fine, Refused as Judged}
+use Rattle.model.specs.Answers.{Verdict}
 use Rattle.model_laws.specs.Judge.{lengths_fine, judged, positions_judged}
 use Rattle.model_laws.proofs.Verdict.{judged_says}
 use Rattle.model_laws.specs.Positions.{Positions}
@@ -18,7 +17,6 @@ use Rattle.model_laws.proofs.PositionsVerdict.{positions_say}
 use Rattle.accum_laws.specs.declared.Accumulator.{Accumulator}
 use Rattle.accum_laws.specs.Triples.{flat}
 use Rattle.sheet.specs.declared.header.Header.{Header}
-use Rattle.sheet.specs.declared.header.Checked.TheVariants.{Accepted}
 use Rattle.sheet.specs.Sheet.{counts_of, records_of}
 use Rattle.sheet.specs.Accepted.{accepted, checked}
 use Rattle.sheet.specs.Ranges.{checked_yes}
@@ -29,12 +27,12 @@ use Rattle.machine.specs.Run.{trace_limit}
 -- ---- the code's tests, one after the other
 
 module _ (c : Counts) (R : ℕ) (u : RunTables) (len : ℕ) (a : Bool) (ea : a ≡ lengths_fine c u.model) where
-  pub model_sizes : not a ≡ true → Judged Size ≡ run_judged c R u len
+  pub model_sizes : not a ≡ true → Err Size ≡ run_judged c R u len
   unfolding run_judged
   model_sizes n = rw (sym ea ∙ not-true a n)
 
   module _ (na : not a ≡ false) where
-    pub positions_size : (p : ℕ) → p ≡ c.processes → length u.positions ≢ p + 1 → Judged Size ≡ run_judged c R u len
+    pub positions_size : (p : ℕ) → p ≡ c.processes → length u.positions ≢ p + 1 → Err Size ≡ run_judged c R u len
     unfolding run_judged
     positions_size p e n = rw (
       sym ea ∙ not-false a na,
@@ -46,7 +44,7 @@ module _ (c : Counts) (R : ℕ) (u : RunTables) (len : ℕ) (a : Bool) (ea : a �
       at : length u.positions ≡ c.processes + 1
       at = np ∙ ap (λ (k : ℕ). k + 1) ep
 
-      pub words_size : length u.words ≢ run_words → Judged Size ≡ run_judged c R u len
+      pub words_size : length u.words ≢ run_words → Err Size ≡ run_judged c R u len
       unfolding run_judged
       words_size n = rw (
         sym ea ∙ not-false a na,
@@ -55,7 +53,7 @@ module _ (c : Counts) (R : ℕ) (u : RunTables) (len : ℕ) (a : Bool) (ea : a �
       )
 
       module _ (nw : length u.words ≡ run_words) where
-        pub trace_size : trace_limit < len → Judged Size ≡ run_judged c R u len
+        pub trace_size : trace_limit < len → Err Size ≡ run_judged c R u len
         unfolding run_judged
         trace_size n =
             rw (
@@ -75,26 +73,26 @@ module _ (c : Counts) (R : ℕ) (u : RunTables) (len : ℕ) (a : Bool) (ea : a �
             le-leb len trace_limit nt,
           )
 
-          pub tables_not : (v : Verdict) (q : Refusal) → v ≡ judged c u.model → v ≡ Judged q → Judged q ≡ run_judged c R u len
+          pub tables_not : (v : Verdict) (q : Refusal) → v ≡ judged c u.model → v ≡ Err q → Err q ≡ run_judged c R u len
           tables_not v q e f = sym (sizes ∙ ap (λ (w : Verdict). after_tables w (positions_judged c R u.positions)) (sym e ∙ f))
 
-          pub tables_fine_lem : (v w : Verdict) → v ≡ judged c u.model → v ≡ Fine → w ≡ positions_judged c R u.positions
+          pub tables_fine_lem : (v w : Verdict) → v ≡ judged c u.model → v ≡ (Ok tt) → w ≡ positions_judged c R u.positions
               → w ≡ run_judged c R u len
           tables_fine_lem v w e f g = g ∙ sym (sizes ∙ ap (λ (x : Verdict). after_tables x (positions_judged c R u.positions)) (sym e ∙ f))
 
 -- ---- what fine says
 
 pub record RunPassed (c : Counts) (R : ℕ) (u : RunTables) (len : ℕ) : Type 0 where
-  pub tables : judged c u.model ≡ Fine
-  pub positions : positions_judged c R u.positions ≡ Fine
+  pub tables : judged c u.model ≡ (Ok tt)
+  pub positions : positions_judged c R u.positions ≡ (Ok tt)
   pub words : length u.words ≡ run_words
   pub short : len ≤ trace_limit
 
-after_fine : (v w : Verdict) → after_tables v w ≡ Fine → (v ≡ Fine) × (w ≡ Fine)
-after_fine Fine w e = (refl, e)
-after_fine (Judged r) w e = let y : false ≡ true = cc in clash y
+after_fine : (v w : Verdict) → after_tables v w ≡ (Ok tt) → (v ≡ (Ok tt)) × (w ≡ (Ok tt))
+after_fine (Ok tt) w e = (refl, e)
+after_fine (Err r) w e = let y : false ≡ true = cc in clash y
 
-pub judged_fine : (c : Counts) (R : ℕ) (u : RunTables) (len : ℕ) → run_judged c R u len ≡ Fine → RunPassed c R u len
+pub judged_fine : (c : Counts) (R : ℕ) (u : RunTables) (len : ℕ) → run_judged c R u len ≡ (Ok tt) → RunPassed c R u len
 unfolding run_judged
 judged_fine c R u len e =
     test (lengths_fine c u.model && (eqb (length u.positions) (c.processes + 1)
@@ -104,7 +102,7 @@ judged_fine c R u len e =
     let q = both (eqb (length u.words) run_words) (leb len trace_limit) p.1 in
     let f = after_fine (judged c u.model) (positions_judged c R u.positions) (rw t at e) in
     record { tables = f.0; positions = f.1; words = eqb-true _ _ q.0; short = leb-true _ _ q.1 })
-    (λ t. let z : Judged Size ≡ Fine = rw t at e in let y : false ≡ true = cc in clash y)
+    (λ t. let z : Err Size ≡ (Ok tt) = rw t at e in let y : false ≡ true = cc in clash y)
 
 -- ---- the machine that is read off the tables
 
@@ -182,11 +180,11 @@ module _ (bytes : List ℕ) (c : Counts) (ok : accepted bytes ≡ true) (is : c 
       }
 
 -- the code's way: the sheet accepted with this header, the run judged fine
-pub fine_standing : (bytes : List ℕ) (h : Header) (u : RunTables) (len : ℕ) → checked bytes ≡ Accepted h
-    → run_judged h.counts h.records u len ≡ Fine
+pub fine_standing : (bytes : List ℕ) (h : Header) (u : RunTables) (len : ℕ) → checked bytes ≡ Ok h
+    → run_judged h.counts h.records u len ≡ (Ok tt)
     → Standing h.counts bytes u × (len ≤ trace_limit)
 fine_standing bytes h u len e f =
     let y = checked_yes bytes h e in
     let p : RunPassed h.counts (records_of bytes) u len = judged_fine h.counts (records_of bytes) u len
-    (subst (λ (R : ℕ). run_judged h.counts R u len ≡ Fine) (ap (λ (k : Header). k.records) y.1) f) in
+    (subst (λ (R : ℕ). run_judged h.counts R u len ≡ (Ok tt)) (ap (λ (k : Header). k.records) y.1) f) in
     (passed_standing bytes h.counts y.0 (ap (λ (k : Header). k.counts) y.1) u len p, p.short)

@@ -1,6 +1,6 @@
 -- What a turn does, whatever its call: the lists stay those of well-formed tables, the notices move as History says, time does not go
 -- back, positions stay in the sheet, and accumulators as required.
-use Rattle.std.specs.Prelude.{ℕ, ◌-◌, ◌≤◌, ◌≡◌, refl, Bool, true, false, ◌&&◌, List, eqb, length, get_or, set, if◌then◌else◌}
+use Rattle.std.specs.Prelude.{ℕ, ◌-◌, ◌≤◌, ◌≡◌, refl, Bool, true, false, ◌&&◌, List, eqb, length, get_or, set, if◌then◌else◌, Ok, Err}
 use Rattle.std.proofs.Common.{subst, arith, get_or-set_same, get_or-set_other, eqb-true}
 use Rattle.std.proofs.Math.ListN.{length-set}
 use Rattle.std.proofs.Math.Seq.{set_out}
@@ -10,9 +10,7 @@ use Rattle.model.specs.declared.Counts.{Counts}
 use Rattle.model_laws.specs.Tables.{Tables, Lists, Spells}
 use Rattle.model_laws.specs.Result.{done, refused, Result}
 use Rattle.model_laws.specs.Now.{time}
-use Rattle.accum_laws.specs.declared.Updated.{Updated}
-use Rattle.accum_laws.specs.declared.Updated.TheVariants.{To, Refused as NotUpdated}
-use Rattle.accum_laws.specs.Update.{updated_of}
+use Rattle.accum_laws.specs.Update.{Updated, updated_of}
 use Rattle.accum_laws.specs.Triples.{numbered}
 use Rattle.accum_laws.specs.Runs.{Each}
 use Rattle.sheet.specs.declared.header.Header.{Header}
@@ -52,8 +50,8 @@ perform_sizes c (on_list k) m = go (lists_after c k m.lists)
 perform_sizes c (accum k d) m = go (updated_of (numbered k m.triples) (time m.lists) d)
   where
     go : (u : Updated) → Then (λ n. (n.positions ≡ m.positions) × (length n.triples ≡ length m.triples)) (storing m k u)
-    go (To v) = (refl, length-set m.triples (k - 1) v)
-    go (NotUpdated r) = tt
+    go (Ok v) = (refl, length-set m.triples (k - 1) v)
+    go (Err r) = tt
 
 -- ---- a turn
 

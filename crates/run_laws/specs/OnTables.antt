@@ -1,8 +1,8 @@
 -- The calls of a step on a run's tables: the published procedures on the model's, accum on the flat list of words.
-use Rattle.std.specs.Prelude.{ℕ, ◌+◌, ◌-◌, Bool, List, ltb, eqb, ℤ, get_or, if◌then◌else◌}
+use Rattle.std.specs.Prelude.{ℕ, ◌+◌, ◌-◌, Bool, List, ltb, eqb, ℤ, get_or, if◌then◌else◌, Ok}
 use Rattle.model.specs.declared.Counts.{Counts}
 use Rattle.model.specs.Counts.{is_head, is_process, linkage_at, total}
-use Rattle.model.specs.declared.answer.Answer.{Answer}
+use Rattle.model.specs.Answers.{Answered}
 use Rattle.model.specs.declared.answer.Answer.TheVariants.{Done}
 use Rattle.model_laws.specs.Tables.{Tables, After}
 use Rattle.model_laws.specs.Now.{time_of, first_of, half}
@@ -46,21 +46,21 @@ operand_at c takes links axis v = operand_with c takes links (first_of (half c) 
 
 -- ---- calling
 
-unfoldable pub tables_after : Counts → ListCall → Tables → After Answer
+unfoldable pub tables_after : Counts → ListCall → Tables → After Answered
 tables_after c (on_set k) t = on_links (links_after c k) t
 tables_after c (hold z) t = on_sqs (λ m a. hold_step c z a) t
 tables_after c passivate t = on_sqs (λ m a. passivate_step c a) t
 tables_after c (wait y) t = on_sets (λ k a. wait_step c y k a) t
 tables_after c (cancel x) t = on_sqs (λ m a. cancel_step c x a) t
 tables_after c (activate again k x y z) t = on_sqs (λ m a. timed_step c again k x y z m a) t
-tables_after c (if_empty x) t = record { tables = t; answer = told_if (is_head c x) Done }
+tables_after c (if_empty x) t = record { tables = t; answer = told_if (is_head c x) (Ok Done) }
 tables_after c finish t = on_marks (λ k a. finish_step c k a) t
 
 -- the model's tables and the accumulators' words after a call, and its answer
 pub record Carried : Type 0 where
   pub tables : Tables
   pub words : List ℤ
-  pub answer : Answer
+  pub answer : Answered
 
 unfoldable pub carried_out : Counts → Call → Tables → List ℤ → Carried
 carried_out c (on_list k) t w = let a = tables_after c k t in record { tables = a.tables; words = w; answer = a.answer }

@@ -1,11 +1,11 @@
 -- Every call on tables that spell the machine does what the machine's call does, with the same refusals.
-use Rattle.std.specs.Prelude.{◌≡◌, List, ℤ}
+use Rattle.std.specs.Prelude.{◌≡◌, List, ℤ, Ok, Err}
 use Rattle.std.proofs.Math.Path.{refl, subst}
 use Rattle.ring_laws.specs.Lists.{test}
 use Rattle.model.specs.declared.Counts.{Counts}
 use Rattle.model.specs.Counts.{is_head}
-use Rattle.model.specs.declared.answer.Answer.{Answer}
-use Rattle.model.specs.declared.answer.Answer.TheVariants.{Done, Refused}
+use Rattle.model.specs.Answers.{Answered}
+use Rattle.model.specs.declared.answer.Answer.TheVariants.{Done}
 use Rattle.model_laws.specs.Tables.{Tables, Lists, After, Sized, Spells}
 use Rattle.model_laws.specs.Called.{called}
 use Rattle.model_laws.specs.Result.{Follows, done, refused, Result}
@@ -22,7 +22,7 @@ use Rattle.run_laws.specs.OnTables.{tables_after, Carried}
 
 module _ (c : Counts) (l : Lists) (t : Tables) (w : Sized c t) (s : Spells c l t) where
   -- what holds of the public call holds of the step, which judges nothing
-  by_call : (r : Result Lists) (f : Tables → After Answer) → Follows c t r (called c f t) → Follows c t r (f t)
+  by_call : (r : Result Lists) (f : Tables → After Answered) → Follows c t r (called c f t) → Follows c t r (f t)
   by_call r f a = subst (Follows c t r) (called_is c l t w s f) a
 
   pub lists_follow : (k : ListCall) → Follows c t (lists_after c k l) (tables_after c k t)
@@ -41,5 +41,5 @@ module _ (c : Counts) (l : Lists) (t : Tables) (w : Sized c t) (s : Spells c l t
 
 -- refused: the refusal, and every word as it was; done: the tables spell the machine's lists, the words are its triples'
 abbrev pub FollowsRun : Counts → Tables → List ℤ → Result Machine → Carried → Type 0
-FollowsRun c t v (refused r) a = (a.answer ≡ Refused r) × (a.tables ≡ t) × (a.words ≡ v)
-FollowsRun c t v (done m) a = (a.answer ≡ Done) × Spells c m.lists a.tables × (a.words ≡ flat m.triples)
+FollowsRun c t v (refused r) a = (a.answer ≡ Err r) × (a.tables ≡ t) × (a.words ≡ v)
+FollowsRun c t v (done m) a = (a.answer ≡ (Ok Done)) × Spells c m.lists a.tables × (a.words ≡ flat m.triples)

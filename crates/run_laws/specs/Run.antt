@@ -1,24 +1,21 @@
 -- A run on lent tables: the judge, the step, the turns, and the call. Each is what the code computes; Refine and Demand3 say what it
 -- means.
-use Rattle.std.specs.Prelude.{ℕ, zero, suc, ◌+◌, ◌*◌, ◌/◌, Bool, ◌&&◌, List, leb, eqb, ℤ, pos, length, get_or, set, if◌then◌else◌}
+use Rattle.std.specs.Prelude.{ℕ, zero, suc, ◌+◌, ◌*◌, ◌/◌, Bool, ◌&&◌, List, leb, eqb, ℤ, pos, length, get_or, set, if◌then◌else◌, Ok, Err, Result}
 use Rattle.model.specs.declared.Counts.{Counts}
 use Rattle.model.specs.declared.Refusal.{Refusal}
 use Rattle.model.specs.declared.Refusal.TheVariants.{Size}
 use Rattle.model.specs.Counts.{linkage_at}
 use Rattle.model.specs.Refusals.{refusal_number}
-use Rattle.model.specs.declared.answer.Answer.{Answer}
-use Rattle.model.specs.declared.answer.Answer.TheVariants.{Done, Linkage, Number, Truth, Refused as NotDone}
-use Rattle.model.specs.declared.verdict.Verdict.{Verdict}
-use Rattle.model.specs.declared.verdict.Verdict.TheVariants.{Fine, Refused as Judged}
+use Rattle.model.specs.Answers.{Answered}
+use Rattle.model.specs.declared.answer.Answer.TheVariants.{Done, Linkage, Number, Truth}
+use Rattle.model.specs.Answers.{Verdict}
 use Rattle.model_laws.specs.Tables.{Tables, model_of}
 use Rattle.model_laws.specs.Judge.{lengths_fine, judged, positions_judged}
 use Rattle.model_laws.specs.Now.{half, time_of, first_of}
 use Rattle.simset_laws.specs.Procedures.{empty_of}
-use Rattle.sheet.specs.declared.header.Checked.{Checked}
-use Rattle.sheet.specs.declared.header.Checked.TheVariants.{Accepted, Refused as NotAccepted}
 use Rattle.sheet.specs.declared.records.Record.{Record}
 use Rattle.sheet.specs.Sheet.{record_with}
-use Rattle.sheet.specs.Accepted.{checked}
+use Rattle.sheet.specs.Accepted.{Checked, checked}
 use Rattle.trace.specs.Lines.{put, line_bytes}
 use Rattle.machine.specs.declared.End.{End}
 use Rattle.machine.specs.declared.End.TheVariants.{Finished, Full, Refused}
@@ -29,7 +26,8 @@ use Rattle.machine.specs.Run.{line_size, trace_limit}
 use Rattle.run_laws.specs.OnTables.{operand_with, Carried, carried_out}
 use Rattle.run_laws.specs.declared.Ran.{Ran}
 use Rattle.run_laws.specs.declared.Turn.{Turn}
-use Rattle.run_laws.specs.declared.Turn.TheVariants.{Finished as AtEnd, Made, Refused as NotMade}
+use Rattle.run_laws.specs.declared.Turn.TheVariants.{Finished as AtEnd, Made}
+use Rattle.sheet.specs.declared.header.Header.{Header}
 
 -- a run's lent tables: the model's four, the positions ("P + 1 words of 32 bits, place 0 zero"), and the words of 64 accumulators
 pub record RunTables : Type 0 where
@@ -53,8 +51,8 @@ lent links axis times marks positions words =
 -- ---- refusals 1 and 2
 
 abbrev pub after_tables : Verdict → Verdict → Verdict
-after_tables Fine v = v
-after_tables (Judged r) v = Judged r
+after_tables (Ok tt) v = v
+after_tables (Err r) v = Err r
 
 -- "Order: 8, 1, 2": a table of another length and a trace that is too long come before tables or positions that are not as they must be
 unfoldable pub run_judged : Counts → ℕ → RunTables → ℕ → Verdict
@@ -62,7 +60,7 @@ run_judged c R u len =
     if lengths_fine c u.model
     && (eqb (length u.positions) (c.processes + 1) && (eqb (length u.words) run_words && leb len trace_limit))
     then after_tables (judged c u.model) (positions_judged c R u.positions)
-    else Judged Size
+    else Err Size
 
 -- ---- a step
 
@@ -101,12 +99,9 @@ pub data Turned : Type 0 where
   On : ℕ → Turned
   Off : Refusal → Turned
 
-unfoldable pub turned_of : Answer → ℕ → Turned
-turned_of Done next = On next
-turned_of (Linkage x) next = On next
-turned_of (Number n) next = On next
-turned_of (Truth b) next = On next
-turned_of (NotDone r) next = Off r
+unfoldable pub turned_of : Answered → ℕ → Turned
+turned_of (Ok a) next = On next
+turned_of (Err r) next = Off r
 
 pub record Stepped : Type 0 where
   pub run : RunTables
@@ -143,20 +138,24 @@ step_on c bytes i u tr =
 unfoldable pub ends_now : Counts → List ℕ → List ℕ → Bool
 ends_now c axis positions = eqb (first_of (half c) axis) 1 && eqb (get_or positions 1 0) 0
 
+-- what a turn comes to, or why its step is turned down
+abbrev pub Taken : Type 0
+Taken = Result Turn Refusal
+
 -- what a turn leaves, and what it comes to: "main current at position 0, finished", else one step
 pub record TurnedOn : Type 0 where
   pub run : RunTables
   pub trace : List ℕ
-  pub turn : Turn
+  pub turn : Taken
 
-abbrev pub turn_by : Turned → Turn
-turn_by (On next) = Made
-turn_by (Off r) = NotMade r
+abbrev pub turn_by : Turned → Taken
+turn_by (On next) = Ok Made
+turn_by (Off r) = Err r
 
 unfoldable pub turn_on : Counts → List ℕ → ℕ → RunTables → List ℕ → TurnedOn
 turn_on c bytes i u tr =
     let s = step_on c bytes i u tr in
-    if ends_now c u.model.axis u.positions then record { run = u; trace = tr; turn = AtEnd }
+    if ends_now c u.model.axis u.positions then record { run = u; trace = tr; turn = (Ok AtEnd) }
     else record { run = s.run; trace = s.trace; turn = turn_by s.turned }
 
 -- what a run call leaves
@@ -183,12 +182,12 @@ turns_on c bytes n (suc k) u tr =
 
 -- 8, then 1 and 2, then turns; a line takes 16 bytes
 abbrev pub judged_run : Verdict → Counts → List ℕ → RunTables → List ℕ → RanOn
-judged_run Fine c bytes u tr = turns_on c bytes 0 (length tr / line_size) u tr
-judged_run (Judged r) c bytes u tr = stopped_on 0 (Refused r) u tr
+judged_run (Ok tt) c bytes u tr = turns_on c bytes 0 (length tr / line_size) u tr
+judged_run (Err r) c bytes u tr = stopped_on 0 (Refused r) u tr
 
 abbrev pub checked_run : Checked → List ℕ → RunTables → List ℕ → RanOn
-checked_run (Accepted h) bytes u tr = judged_run (run_judged h.counts h.records u (length tr)) h.counts bytes u tr
-checked_run (NotAccepted r) bytes u tr = stopped_on 0 (Refused r) u tr
+checked_run (Ok h) bytes u tr = judged_run (run_judged h.counts h.records u (length tr)) h.counts bytes u tr
+checked_run (Err r) bytes u tr = stopped_on 0 (Refused r) u tr
 
 unfoldable pub run_on : List ℕ → RunTables → List ℕ → RanOn
 run_on bytes u tr = checked_run (checked bytes) bytes u tr

@@ -1,13 +1,13 @@
 -- The twelve named situations of document 01, by one computed check over a list of them: on the machine, and on tables by the
 -- published procedures, from the fresh model on.
-use Rattle.std.specs.Prelude.{ℕ, zero, suc, ◌+◌, ◌≡◌, refl, Bool, true, false, not, ◌&&◌, List, [], ◌∷◌, eqb, ℤ, pos, negsuc, get_or, if◌then◌else◌}
+use Rattle.std.specs.Prelude.{ℕ, zero, suc, ◌+◌, ◌≡◌, refl, Bool, true, false, not, ◌&&◌, List, [], ◌∷◌, eqb, ℤ, pos, negsuc, get_or, if◌then◌else◌, Ok, Err}
 use Rattle.ring_laws.specs.Distinct.{joined}
 use Rattle.ring_laws.specs.Tabulate.{has}
 use Rattle.ring_laws.specs.Table.{unlinked, linked_behind, linked_before, self_linked}
 use Rattle.model.specs.declared.Counts.{Counts}
 use Rattle.model.specs.Refusals.{refusal_number}
-use Rattle.model.specs.declared.answer.Answer.{Answer}
-use Rattle.model.specs.declared.answer.Answer.TheVariants.{Done, Linkage, Number, Truth, Refused}
+use Rattle.model.specs.Answers.{Answered}
+use Rattle.model.specs.declared.answer.Answer.TheVariants.{Done, Linkage, Number, Truth}
 use Rattle.model.specs.declared.call.SetCall.TheVariants.{Follow, Into}
 use Rattle.axis_laws.specs.Notices.{Notice}
 use Rattle.model_laws.specs.Tables.{Tables, After}
@@ -57,14 +57,11 @@ abbrev machine_after : List ListCall → Result Machine → Result Machine
 machine_after [] r = r
 machine_after (k ∷ ks) r = machine_after ks (go_on k r)
 
-abbrev going : Answer → Bool
-going (Refused r) = false
-going Done = true
-going (Linkage x) = true
-going (Number n) = true
-going (Truth b) = true
+abbrev going : Answered → Bool
+going (Err r) = false
+going (Ok a) = true
 
-abbrev model_after : List ListCall → After Answer → After Answer
+abbrev model_after : List ListCall → After Answered → After Answered
 model_after [] r = r
 model_after (k ∷ ks) r = if going r.answer then model_after ks (tables_after c k r.tables) else r
 
@@ -96,14 +93,11 @@ machine_meets (done m) (axis ns) = same m.lists.notices ns
 machine_meets (done m) (number k) = false
 machine_meets (done m) (outside x) = not (has x (joined m.lists.sets))
 
-abbrev answer_is : Answer → ℕ → Bool
-answer_is (Refused r) k = eqb (refusal_number r) k
-answer_is Done k = false
-answer_is (Linkage x) k = false
-answer_is (Number n) k = false
-answer_is (Truth b) k = false
+abbrev answer_is : Answered → ℕ → Bool
+answer_is (Err r) k = eqb (refusal_number r) k
+answer_is (Ok a) k = false
 
-abbrev tables_meet : After Answer → Expected → Bool
+abbrev tables_meet : After Answered → Expected → Bool
 tables_meet r (axis ns) = going r.answer && same (notices_from r.tables 5 (next_place r.tables.axis 5)) ns
 tables_meet r (number k) = answer_is r.answer k
 tables_meet r (outside x) = going r.answer && eqb (get_or r.tables.links x 0) 0 && eqb (get_or r.tables.links (6 + x) 0) 0
@@ -148,7 +142,7 @@ unfolding plain.hold due_for placed no_effect timed fresh_heads fresh_axis fresh
     put_by_clause activated hold_step timed_step fresh lists_after perform tables_after
 met s =
     machine_meets (machine_after s.calls (done (fresh (record { counts = c; starts = []; records = [] })))) s.want
-    && tables_meet (model_after s.calls (record { tables = fresh_tables c; answer = Done })) s.want
+    && tables_meet (model_after s.calls (record { tables = fresh_tables c; answer = Ok Done })) s.want
 
 abbrev all : List Situation → Bool
 all [] = true

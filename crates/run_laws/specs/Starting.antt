@@ -1,12 +1,10 @@
 -- A fresh run and its first call in one, for a caller that brings tables of the right lengths and an accepted sheet.
-use Rattle.std.specs.Prelude.{ℕ, ◌/◌, ◌≤◌, ◌≡◌, refl, true, List, length}
+use Rattle.std.specs.Prelude.{ℕ, ◌/◌, ◌≤◌, ◌≡◌, refl, true, List, length, Ok}
 use Rattle.std.proofs.Common.{sym, ◌∙◌, subst}
 use Rattle.std.proofs.Math.Path.{ap}
 use Rattle.model.specs.declared.Counts.{Counts}
-use Rattle.model.specs.declared.verdict.Verdict.{Verdict}
-use Rattle.model.specs.declared.verdict.Verdict.TheVariants.{Fine}
+use Rattle.model.specs.Answers.{Verdict}
 use Rattle.sheet.specs.declared.header.Header.{Header}
-use Rattle.sheet.specs.declared.header.Checked.TheVariants.{Accepted}
 use Rattle.sheet.specs.Sheet.{counts_of, sheet_of}
 use Rattle.sheet.specs.Accepted.{checked}
 use Rattle.sheet.specs.Ranges.{checked_yes}
@@ -17,7 +15,7 @@ use Rattle.run_laws.specs.Standing.{Standing}
 use Rattle.run_laws.specs.Fresh.{fresh_run, Filled, sizes_fine, filled_for, fresh_stands}
 
 pub record Startable (h : Header) (bytes : List ℕ) (u : RunTables) (tr : List ℕ) : Type 0 where
-  pub ok : checked bytes ≡ Accepted h
+  pub ok : checked bytes ≡ Ok h
   pub sizes : sizes_fine h.counts u ≡ true
   pub short : length tr ≤ trace_limit
 
@@ -25,10 +23,10 @@ unfoldable pub started_on : Counts → List ℕ → List ℕ → RanOn
 started_on c bytes tr = turns_on c bytes 0 (length tr / line_size) (fresh_run c bytes) tr
 
 module _ (h : Header) (bytes : List ℕ) (u : RunTables) (tr : List ℕ) (s : Startable h bytes u tr) (v : RunTables) (a : Verdict)
-    (e : record { run = v; answer = a } ≡ filled_for (Accepted h) bytes u) where
+    (e : record { run = v; answer = a } ≡ filled_for (Ok h) bytes u) where
   is_fresh : v ≡ fresh_run h.counts bytes
   is_fresh =
-      let q : filled_for (Accepted h) bytes u ≡ record { run = fresh_run h.counts bytes; answer = Fine } = rw s.sizes in
+      let q : filled_for (Ok h) bytes u ≡ record { run = fresh_run h.counts bytes; answer = Ok tt } = rw s.sizes in
       ap (λ (o : Filled). o.run) (e ∙ q)
 
   fresh_standing : Standing h.counts bytes (fresh_run h.counts bytes)

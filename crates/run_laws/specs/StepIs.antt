@@ -1,5 +1,5 @@
 -- What the step's code leaves, from what its call came to.
-use Rattle.std.specs.Prelude.{ℕ, ◌≡◌, Bool, true, false, List, ℤ, set}
+use Rattle.std.specs.Prelude.{ℕ, ◌≡◌, Bool, true, false, List, ℤ, set, Ok, Err}
 use Rattle.std.proofs.Math.Path.{refl, sym, ap}
 use Rattle.std.proofs.Common.{◌∙◌}
 use Rattle.ring_laws.specs.Lists.{clash}
@@ -9,10 +9,9 @@ use Rattle.model_laws.specs.Tables.{Tables}
 use Rattle.trace.specs.Lines.{put, line_bytes}
 use Rattle.machine.specs.Calls.{on_set, hold, passivate, wait, cancel, activate, if_empty, finish, Call, on_list, accum}
 use Rattle.run_laws.specs.OnTables.{tables_after, carried_out}
-use Rattle.run_laws.specs.declared.Effect.{Effect}
-use Rattle.run_laws.specs.declared.Effect.TheVariants.{Stays, Jumps, Moves, Refused, Apart}
+use Rattle.run_laws.specs.declared.Effect.TheVariants.{Stays, Jumps, Moves, Apart}
 use Rattle.run_laws.specs.Run.{On}
-use Rattle.run_laws.specs.Performed.{call_effect, turned_by}
+use Rattle.run_laws.specs.Performed.{Meant, call_effect, turned_by}
 
 -- after an accepted call the process at place f is at next, and its line stands at byte i
 pub record Went (c : Counts) (f time r i next : ℕ) (ps tr ps' tr' : List ℕ) : Type 0 where
@@ -21,12 +20,12 @@ pub record Went (c : Counts) (f time r i next : ℕ) (ps tr ps' tr' : List ℕ) 
 
 -- ---- a call after which current stays keeps the axis and the times
 
-abbrev pub stayed : Effect → Bool
-stayed Stays = true
-stayed (Jumps y) = true
-stayed Moves = false
-stayed (Refused r) = false
-stayed Apart = false
+abbrev pub stayed : Meant → Bool
+stayed (Ok Stays) = true
+stayed (Ok (Jumps y)) = true
+stayed (Ok Moves) = false
+stayed (Err r) = false
+stayed (Ok Apart) = false
 
 module _ (c : Counts) (t : Tables) (w : List ℤ) where
   abbrev AxisStays : Call → Type 0
@@ -46,10 +45,10 @@ module _ (c : Counts) (t : Tables) (w : List ℤ) where
 
 -- ---- the record that an accepted call leads to, from what it means
 
-module _ (v : Effect) (next n : ℕ) where
+module _ (v : Meant) (next n : ℕ) where
   -- the record's next, where the process stays or may have changed
-  pub to_next : (w : Effect) → turned_by w next ≡ On next → v ≡ w → n ≡ next → turned_by v next ≡ On n
-  to_next w t e en = ap (λ (u : Effect). turned_by u next) e ∙ t ∙ ap On (sym en)
+  pub to_next : (w : Meant) → turned_by w next ≡ On next → v ≡ w → n ≡ next → turned_by v next ≡ On n
+  to_next w t e en = ap (λ (u : Meant). turned_by u next) e ∙ t ∙ ap On (sym en)
 
-  pub jumps_to : v ≡ Jumps n → turned_by v next ≡ On n
-  jumps_to e = ap (λ (w : Effect). turned_by w next) e
+  pub jumps_to : v ≡ Ok (Jumps n) → turned_by v next ≡ On n
+  jumps_to e = ap (λ (w : Meant). turned_by w next) e

@@ -1,6 +1,6 @@
 -- The calls that a stretch of turns makes itself, and those that are made apart. It is a matter of speed alone: what a call leaves is
 -- `performed` for all of them.
-use Rattle.std.specs.Prelude.{ℕ, ◌≤◌, ◌≡◌, ◌≢◌, Bool, ◌&&◌, ◌||◌, List, [], ◌∷◌, leb, ℤ, if◌then◌else◌}
+use Rattle.std.specs.Prelude.{ℕ, ◌≤◌, ◌≡◌, ◌≢◌, Bool, ◌&&◌, ◌||◌, List, [], ◌∷◌, leb, ℤ, if◌then◌else◌, Ok, Err}
 use Rattle.std.proofs.Math.Path.{refl, sym, ap}
 use Rattle.std.proofs.Common.{◌∙◌}
 use Rattle.std.proofs.Math.Bool.{true, false, not}
@@ -16,9 +16,8 @@ use Rattle.sheet.specs.declared.records.Record.{Record}
 use Rattle.sheet.specs.Operations.{last_operation}
 use Rattle.sheet.specs.AllTo.{all_to, all_at}
 use Rattle.run_laws.specs.OnTables.{operand_with}
-use Rattle.run_laws.specs.declared.Effect.{Effect}
-use Rattle.run_laws.specs.declared.Effect.TheVariants.{Stays, Jumps, Moves, Refused, Apart}
-use Rattle.run_laws.specs.Performed.{Performed, performed}
+use Rattle.run_laws.specs.declared.Effect.TheVariants.{Stays, Jumps, Moves, Apart}
+use Rattle.run_laws.specs.Performed.{Meant, Performed, performed}
 
 -- out, hold, if-empty and accum are made in a stretch, whatever their operands are; others may be made apart
 abbrev pub made_here : ℕ → Bool
@@ -51,7 +50,7 @@ left c q f links known =
 
 -- a call that is left is not made, and nothing has changed
 unfoldable pub tried : Counts → Record → ℕ → Tables → List ℤ → Bool → Performed
-tried c q f t w known = if left c q f t.links known then record { tables = t; words = w; effect = Apart } else performed c q f t w
+tried c q f t w known = if left c q f t.links known then record { tables = t; words = w; effect = (Ok Apart) } else performed c q f t w
 
 no_here : (q : Record) → apart q ≡ true → made_here q.operation ≡ false
 unfolding apart
@@ -87,9 +86,9 @@ left_apart q o is a lo hi n2 n3 n4 n5 n7 n8 n9 =
 
 -- ---- what was tried
 
-abbrev pub is_apart : Effect → Bool
-is_apart Stays = false
-is_apart (Jumps y) = false
-is_apart Moves = false
-is_apart (Refused r) = false
-is_apart Apart = true
+abbrev pub is_apart : Meant → Bool
+is_apart (Ok Stays) = false
+is_apart (Ok (Jumps y)) = false
+is_apart (Ok Moves) = false
+is_apart (Err r) = false
+is_apart (Ok Apart) = true

@@ -18,7 +18,7 @@ pub struct Ran {
     pub end: End,
 }
 
-// What a step's call means for the process that makes it.
+// What an accepted step's call means for the process that makes it.
 #[derive(Clone, Copy)]
 pub enum Effect {
     // It stays current, and goes on at the record's next,
@@ -27,7 +27,6 @@ pub enum Effect {
     Jumps(u32),
     // Another may be current now.
     Moves,
-    Refused(Refusal),
     // The call is one of those that are made apart; it is not made yet.
     Apart,
 }
@@ -49,13 +48,11 @@ pub struct Stretch {
     pub pause: Pause,
 }
 
-// What one turn comes to.
+// What one turn comes to, where the step is not turned down.
 #[derive(Clone, Copy)]
 pub enum Turn {
     // Main was current at position 0.
     Finished,
     // A step was made, and its line stands in the trace.
     Made,
-    // The step was turned down, and nothing has changed.
-    Refused(Refusal),
 }

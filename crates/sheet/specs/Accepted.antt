@@ -1,5 +1,5 @@
 -- Which sheets are accepted; every other is refused with 8.
-use Rattle.std.specs.Prelude.{ℕ, ◌+◌, ◌*◌, ◌-◌, Bool, ◌&&◌, ◌||◌, List, leb, eqb, nat_abs, length, if◌then◌else◌}
+use Rattle.std.specs.Prelude.{ℕ, ◌+◌, ◌*◌, ◌-◌, Bool, ◌&&◌, ◌||◌, List, leb, eqb, nat_abs, length, if◌then◌else◌, Ok, Err, Result}
 use Rattle.model.specs.Counts.{in_limits, total, is_head}
 use Rattle.model.specs.declared.Counts.{Counts}
 use Rattle.model.specs.declared.Refusal.TheVariants.{Layout}
@@ -9,12 +9,11 @@ use Rattle.words.specs.Words.{u8_at}
 use Rattle.sheet.specs.Sheet.{counts_of, records_of, start_at, record_offset, record_from, header_bytes, record_bytes}
 use Rattle.sheet.specs.Operations.{uses_of, last_operation}
 use Rattle.sheet.specs.declared.header.Header.{Header}
-use Rattle.sheet.specs.declared.header.Checked.{Checked}
-use Rattle.sheet.specs.declared.header.Checked.TheVariants.{Accepted, Refused}
 use Rattle.sheet.specs.declared.operations.Holds.{Holds}
 use Rattle.sheet.specs.declared.operations.Holds.TheVariants.{Nothing, Operand, RecordNumber, AccumulatorNumber}
 use Rattle.sheet.specs.declared.operations.Uses.{Uses}
 use Rattle.sheet.specs.declared.records.Record.{Record}
+use Rattle.model.specs.declared.Refusal.{Refusal}
 
 -- ---- the header and the length
 
@@ -96,9 +95,13 @@ records_to s h n = all_to (layout_fine s h) n
 unfoldable pub accepted : List ℕ → Bool
 accepted s = sized s && (starts_to s (records_of s) (counts_of s).processes && records_to s (header_of s) (records_of s))
 
+-- an accepted sheet's header, or the refusal
+abbrev pub Checked : Type 0
+Checked = Result Header Refusal
+
 -- what the check answers: the header if the test says yes, else refusal 8
 abbrev pub answer : Bool → Header → Checked
-answer b h = if b then Accepted h else Refused Layout
+answer b h = if b then Ok h else Err Layout
 
 -- 8: "sheet breaks its layout, limits included"
 unfoldable pub checked : List ℕ → Checked
@@ -106,5 +109,5 @@ checked s = answer (accepted s) (header_of s)
 
 -- the papers' number of what the check answers; 0 is accepted
 abbrev pub checked_code : Checked → ℕ
-checked_code (Accepted h) = 0
-checked_code (Refused r) = refusal_number r
+checked_code (Ok h) = 0
+checked_code (Err r) = refusal_number r

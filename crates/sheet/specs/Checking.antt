@@ -1,5 +1,5 @@
 -- What the parts of the check tell: from the counts to the header, from the header to the sheet.
-use Rattle.std.specs.Prelude.{ℕ, ◌≤◌, ◌<◌, ◌≡◌, refl, Bool, ◌&&◌, List, leb, eqb, length}
+use Rattle.std.specs.Prelude.{ℕ, ◌≤◌, ◌<◌, ◌≡◌, refl, Bool, ◌&&◌, List, leb, eqb, length, Ok, Err, Result}
 use Rattle.std.proofs.Math.Path.{sym, ap}
 use Rattle.std.proofs.Common.{◌∙◌}
 use Rattle.std.proofs.Math.Bool.{true, false}
@@ -7,41 +7,37 @@ use borrow.Author.Tests.{le-leb, lt-leb, eqb-true}
 use Rattle.ring_laws.specs.Lists.{test, clash}
 use Rattle.model.specs.Counts.{in_limits, made_of, both, made_allowed, allowed_limits}
 use Rattle.model.specs.declared.Counts.{Counts}
-use Rattle.model.specs.declared.CountsMade.{CountsMade}
-use Rattle.model.specs.declared.CountsMade.TheVariants as made
 use Rattle.model.specs.declared.Refusal.{Refusal}
 use Rattle.model.specs.declared.Refusal.TheVariants.{Layout}
 use Rattle.sheet.specs.Sheet.{counts_of, records_of, header_bytes}
-use Rattle.sheet.specs.Accepted.{header_of, length_of, size_fine, sized, starts_to, records_to, accepted, answer, checked}
+use Rattle.sheet.specs.Accepted.{Checked, header_of, length_of, size_fine, sized, starts_to, records_to, accepted, answer, checked}
 use Rattle.sheet.specs.declared.header.Header.{Header}
-use Rattle.sheet.specs.declared.header.Checked.{Checked}
-use Rattle.sheet.specs.declared.header.Checked.TheVariants.{Accepted, Refused}
 
 -- which test an answer shows
-pub answer_yes : (b : Bool) (h k : Header) → Accepted k ≡ answer b h → (b ≡ true) × (k ≡ h)
+pub answer_yes : (b : Bool) (h k : Header) → Ok k ≡ answer b h → (b ≡ true) × (k ≡ h)
 answer_yes true h k e = (refl, cc)
 answer_yes false h k e = let z : false ≡ true = cc in clash z
 
-pub answer_no : (b : Bool) (h : Header) (q : Refusal) → Refused q ≡ answer b h → (b ≡ false) × (q ≡ Layout)
+pub answer_no : (b : Bool) (h : Header) (q : Refusal) → Err q ≡ answer b h → (b ≡ false) × (q ≡ Layout)
 answer_no true h q e = let z : false ≡ true = cc in clash z
 answer_no false h q e = (refl, cc)
 
 -- ---- the header
 
 module _ (s : List ℕ) where
-  pub too_short : length s < header_bytes → Refused Layout ≡ answer (sized s) (header_of s)
+  pub too_short : length s < header_bytes → Err Layout ≡ answer (sized s) (header_of s)
   unfolding sized
   too_short l = rw (lt-leb header_bytes (length s) l)
 
-  module _ (long : header_bytes ≤ length s) (m : CountsMade) (is : m ≡ made_of (counts_of s)) where
-    pub counts_refused : (q : Refusal) → m ≡ made.Refused q → Refused Layout ≡ answer (sized s) (header_of s)
+  module _ (long : header_bytes ≤ length s) (m : (Result Counts Refusal)) (is : m ≡ made_of (counts_of s)) where
+    pub counts_refused : (q : Refusal) → m ≡ Err q → Err Layout ≡ answer (sized s) (header_of s)
     unfolding sized made_of
     counts_refused q e =
         test (in_limits (counts_of s))
-        (λ t. let y : made.Made (counts_of s) ≡ made.Refused q = sym (rw t) ∙ (sym is ∙ e) in let z : false ≡ true = cc in clash z)
+        (λ t. let y : Ok (counts_of s) ≡ Err q = sym (rw t) ∙ (sym is ∙ e) in let z : false ≡ true = cc in clash z)
         (λ t. rw (le-leb header_bytes (length s) long, t))
 
-    pub counts_made : (c : Counts) (R : ℕ) → m ≡ made.Made c → R ≡ records_of s
+    pub counts_made : (c : Counts) (R : ℕ) → m ≡ Ok c → R ≡ records_of s
         → answer (size_fine s (record { counts = c; records = R })) (record { counts = c; records = R }) ≡ answer (sized s) (header_of s)
     unfolding sized
     counts_made c R e f =
@@ -53,11 +49,11 @@ module _ (s : List ℕ) where
 -- ---- the sheet
 
 module _ (s : List ℕ) (r : Checked) (from : r ≡ answer (sized s) (header_of s)) where
-  pub header_refused : (q : Refusal) → r ≡ Refused q → Refused q ≡ checked s
+  pub header_refused : (q : Refusal) → r ≡ Err q → Err q ≡ checked s
   unfolding checked accepted
   header_refused q e = let n = answer_no (sized s) (header_of s) q (sym e ∙ from) in rw (n.0, n.1)
 
-  module _ (h : Header) (is : r ≡ Accepted h) where
+  module _ (h : Header) (is : r ≡ Ok h) where
     yes_sized : (sized s ≡ true) × (h ≡ header_of s)
     yes_sized = answer_yes (sized s) (header_of s) h (sym is ∙ from)
 
@@ -75,15 +71,15 @@ module _ (s : List ℕ) (r : Checked) (from : r ≡ answer (sized s) (header_of 
     abbrev records : Header → Bool
     records k = records_to s k k.records
 
-    pub starts_break : starts h ≡ false → Refused Layout ≡ checked s
+    pub starts_break : starts h ≡ false → Err Layout ≡ checked s
     unfolding checked accepted
     starts_break e = rw (yes_sized.0, sym (ap starts yes_sized.1) ∙ e)
 
-    pub records_break : starts h ≡ true → records h ≡ false → Refused Layout ≡ checked s
+    pub records_break : starts h ≡ true → records h ≡ false → Err Layout ≡ checked s
     unfolding checked accepted
     records_break e f = rw (yes_sized.0, sym (ap starts yes_sized.1) ∙ e, sym (ap records yes_sized.1) ∙ f)
 
-    pub all_fine : starts h ≡ true → records h ≡ true → Accepted h ≡ checked s
+    pub all_fine : starts h ≡ true → records h ≡ true → Ok h ≡ checked s
     unfolding checked accepted
     all_fine e f =
-        rw (yes_sized.0, sym (ap starts yes_sized.1) ∙ e, sym (ap records yes_sized.1) ∙ f) (ap Accepted yes_sized.1)
+        rw (yes_sized.0, sym (ap starts yes_sized.1) ∙ e, sym (ap records yes_sized.1) ∙ f) (ap Ok yes_sized.1)

@@ -1,5 +1,5 @@
 -- What holds of an accepted sheet: its size, that its fields lie within it, and their ranges.
-use Rattle.std.specs.Prelude.{ℕ, ◌+◌, ◌*◌, ◌-◌, ◌≤◌, ◌≡◌, Bool, true, false, ◌&&◌, List, leb, eqb, length, get_or, if◌then◌else◌}
+use Rattle.std.specs.Prelude.{ℕ, ◌+◌, ◌*◌, ◌-◌, ◌≤◌, ◌≡◌, Bool, true, false, ◌&&◌, List, leb, eqb, length, get_or, if◌then◌else◌, Ok, Err}
 use Rattle.std.proofs.Common.{sym, ◌∙◌, arith, leb-true, eqb-true}
 use Rattle.std.proofs.Math.Path.{ap}
 use Rattle.model.specs.Counts.{Allowed, in_limits, both, limits_allowed}
@@ -14,17 +14,16 @@ use Rattle.sheet.specs.Accepted.{checked, checked_code}
 use Rattle.sheet.specs.Checking.{answer_yes, answer_no}
 use Rattle.sheet.specs.Fields.{Ranged, ranged}
 use Rattle.sheet.specs.declared.header.Header.{Header}
-use Rattle.sheet.specs.declared.header.Checked.TheVariants.{Accepted, Refused}
 use Rattle.sheet.specs.declared.records.Record.{Record}
 
 -- ---- what the check's answer tells
 
 module _ (s : List ℕ) where
-  pub checked_yes : (h : Header) → checked s ≡ Accepted h → (accepted s ≡ true) × (h ≡ header_of s)
+  pub checked_yes : (h : Header) → checked s ≡ Ok h → (accepted s ≡ true) × (h ≡ header_of s)
   unfolding checked
   checked_yes h e = answer_yes (accepted s) (header_of s) h (sym e)
 
-  pub checked_no : (q : Refusal) → checked s ≡ Refused q → (accepted s ≡ false) × (q ≡ Layout)
+  pub checked_no : (q : Refusal) → checked s ≡ Err q → (accepted s ≡ false) × (q ≡ Layout)
   unfolding checked
   checked_no q e = answer_no (accepted s) (header_of s) q (sym e)
 

@@ -1,5 +1,5 @@
 -- The definitions of Accepted, one test at a time, as the code makes the tests.
-use Rattle.std.specs.Prelude.{ℕ, suc, ◌+◌, ◌-◌, ◌^◌, ◌≤◌, ◌<◌, ◌≡◌, refl, ◌≢◌, Bool, true, false, not, ◌||◌, List, eqb, ℤ, pos, negsuc, nat_abs, length}
+use Rattle.std.specs.Prelude.{ℕ, suc, ◌+◌, ◌-◌, ◌^◌, ◌≤◌, ◌<◌, ◌≡◌, refl, ◌≢◌, Bool, true, false, not, ◌||◌, List, eqb, ℤ, pos, negsuc, nat_abs, length, Ok, Err}
 use Rattle.std.proofs.Common.{sym, ◌∙◌, arith, SFits, of_z, to_z, le-leb, eq-eqb, ne_eqb}
 use Rattle.std.proofs.Math.Path.{ap}
 use Rattle.std.specs.Int.{w64}
@@ -14,15 +14,14 @@ use Rattle.sheet.specs.Operations.{uses_of, last_operation}
 use Rattle.sheet.specs.Accepted.{length_of, size_fine, is_operand, may_hold, fields_fine, record_fine, pad_fine, layout_fine, answer}
 use Rattle.sheet.specs.Accepted.{operand_base}
 use Rattle.sheet.specs.declared.header.Header.{Header}
-use Rattle.sheet.specs.declared.header.Checked.TheVariants.{Accepted, Refused}
 use Rattle.sheet.specs.declared.operations.Holds.{Holds}
 use Rattle.sheet.specs.declared.records.Record.{Record}
 
 -- a test that is false turns the sheet down, one that is true answers the header
-pub turned_down_lem : (b : Bool) (h : Header) → false ≡ b → Refused Layout ≡ answer b h
+pub turned_down_lem : (b : Bool) (h : Header) → false ≡ b → Err Layout ≡ answer b h
 turned_down_lem b h e = rw (sym e)
 
-pub taken : (b : Bool) (h : Header) → true ≡ b → Accepted h ≡ answer b h
+pub taken : (b : Bool) (h : Header) → true ≡ b → Ok h ≡ answer b h
 taken b h e = rw (sym e)
 
 -- one alternative after another

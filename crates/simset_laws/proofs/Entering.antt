@@ -1,15 +1,14 @@
 -- What the code of a call that enters a set promises beside its answer: that the bounds of the sets' sizes hold after it. The other set
 -- calls leave them as they are.
-use Rattle.std.specs.Prelude.{ℕ, ◌+◌, ◌≤◌, ◌≡◌, refl, Bool, true, false, List, if◌then◌else◌}
+use Rattle.std.specs.Prelude.{ℕ, ◌+◌, ◌≤◌, ◌≡◌, refl, Bool, true, false, List, if◌then◌else◌, Ok, Err}
 use Rattle.std.proofs.Common.{sym, ap, ◌∙◌, arith, le-leb}
 use Rattle.ring_laws.specs.Lists.{test, clash}
 use Rattle.ring_laws.specs.Table.{Sound, Made, unlinked}
 use Rattle.model.specs.declared.Counts.{Counts}
 use Rattle.model.specs.declared.Refusal.TheVariants.{Operand, Full}
-use Rattle.model.specs.declared.verdict.Verdict.{Verdict}
-use Rattle.model.specs.declared.verdict.Verdict.TheVariants.{Fine, Refused as Not}
+use Rattle.model.specs.Answers.{Verdict}
 use Rattle.model.specs.Counts.{total, is_head, is_link, is_linkage}
-use Rattle.model.specs.declared.answer.Answer.TheVariants.{Done, Refused}
+use Rattle.model.specs.declared.answer.Answer.TheVariants.{Done}
 use Rattle.simset_laws.specs.Procedures.{cleared}
 use Rattle.simset_laws.specs.Full.{set_at, many, full_for, free_to}
 use Rattle.simset_laws.specs.Calls.{Linked, linked_if, entered_if, or_none, out_step, clear_step}
@@ -23,11 +22,11 @@ use Rattle.simset_laws.specs.Entering.{Tested, Entered, entry_verdict, is_fine, 
 
 module _ (c : Counts) (links bounds u : List ℕ) (b f : Bool) (sound : Sound (total c + 1) links) where
   pub entering_not : Covers c 0 links bounds → b ≡ false
-      → Entered c links (entered_if b f links u) bounds (record { links = links; answer = Refused Operand })
+      → Entered c links (entered_if b f links u) bounds (record { links = links; answer = Err Operand })
   entering_not v e = record { moved = entry_not (total c + 1) links u b f sound e; covers = λ w. v }
 
   module _ (k : ℕ) (r : Bool) (t : Tested c k links f bounds r) (fine : b ≡ true) where
-    pub entering_full : r ≡ true → Entered c links (entered_if b f links u) bounds (record { links = links; answer = Refused Full })
+    pub entering_full : r ≡ true → Entered c links (entered_if b f links u) bounds (record { links = links; answer = Err Full })
     entering_full e =
         record {
           moved = entry_full (total c + 1) links u b f sound fine (sym t.is ∙ e);
@@ -35,32 +34,32 @@ module _ (c : Counts) (links bounds u : List ℕ) (b f : Bool) (sound : Sound (t
         }
 
     pub entering : r ≡ false → (v : List ℕ) → Made (total c + 1) u v → (v ≡ u → Linking c links → Covers c 0 v bounds)
-        → Entered c links (entered_if b f links u) bounds (record { links = v; answer = Done })
+        → Entered c links (entered_if b f links u) bounds (record { links = v; answer = Ok Done })
     entering e v made w = record { moved = entered (total c + 1) links u b f v fine (sym t.is ∙ e) made; covers = w made.is }
 
 module _ (c : Counts) (links bounds : List ℕ) (k : ℕ) (b f : Bool) where
-  pub beside_not : Covers c 0 links bounds → b ≡ false → Beside c k links b f bounds (Not Operand)
+  pub beside_not : Covers c 0 links bounds → b ≡ false → Beside c k links b f bounds (Err Operand)
   beside_not v e = record { is = rw e; kept = v; covers = λ q. clash (ap is_fine q) }
 
   module _ (r : Bool) (t : Tested c k links f bounds r) (fine : b ≡ true) where
-    pub beside_full : r ≡ true → Beside c k links b f bounds (Not Full)
+    pub beside_full : r ≡ true → Beside c k links b f bounds (Err Full)
     beside_full e =
         record { is = rw (fine, sym t.is ∙ e); kept = covers_less c k links bounds t.covers; covers = λ q. clash (ap is_fine q) }
 
-    pub beside_fine : r ≡ false → Beside c k links b f bounds Fine
+    pub beside_fine : r ≡ false → Beside c k links b f bounds (Ok tt)
     beside_fine e =
         record { is = rw (fine, sym t.is ∙ e); kept = covers_less c k links bounds t.covers; covers = λ q. t.covers }
 
-  pub beside_may : (v : Verdict) → Beside c k links b f bounds v → v ≡ Fine → b ≡ true
+  pub beside_may : (v : Verdict) → Beside c k links b f bounds v → v ≡ (Ok tt) → b ≡ true
   beside_may v t e = go b f (sym e ∙ t.is)
     where
-      go : (b f : Bool) → Fine ≡ entry_verdict b f → b ≡ true
+      go : (b f : Bool) → (Ok tt) ≡ entry_verdict b f → b ≡ true
       go true f z = refl
       go false f z = sym (ap is_fine z)
 
 -- no set is full beside a free linkage, or none
 pub beside_free : (c : Counts) (x y : ℕ) (links bounds : List ℕ) → Covers c 0 links bounds → y ≤ free_to c (total c)
-    → Beside c (set_at (total c + 1) c.heads y links) links (or_none (is_linkage c y) y) (full_for c x y links) bounds Fine
+    → Beside c (set_at (total c + 1) c.heads y links) links (or_none (is_linkage c y) y) (full_for c x y links) bounds (Ok tt)
 unfolding full_for set_at
 beside_free c x y links bounds v l =
     test (many c)
@@ -71,7 +70,7 @@ beside_free c x y links bounds v l =
       covers = λ q. covers_few c 0 _ links links bounds ma v;
     })
   where
-    none : y ≡ 0 → Beside c (set_at (total c + 1) c.heads y links) links (or_none (is_linkage c y) y) (full_for c x y links) bounds Fine
+    none : y ≡ 0 → Beside c (set_at (total c + 1) c.heads y links) links (or_none (is_linkage c y) y) (full_for c x y links) bounds (Ok tt)
     none z =
         record {
           is = rw (z, le-leb 0 c.heads (omega arith)) (go (many c));
@@ -79,7 +78,7 @@ beside_free c x y links bounds v l =
           covers = λ q. rw (z, le-leb 0 c.heads (omega arith)) v;
         }
       where
-        go : (b : Bool) → Fine ≡ entry_verdict true (if b then false else false)
+        go : (b : Bool) → (Ok tt) ≡ entry_verdict true (if b then false else false)
         go true = refl
         go false = refl
 

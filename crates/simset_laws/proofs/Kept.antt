@@ -1,11 +1,10 @@
 -- A refused set call changes no word, whatever the tables.
-use Rattle.std.specs.Prelude.{ℕ, ◌+◌, ◌≡◌, ◌&&◌, List}
+use Rattle.std.specs.Prelude.{ℕ, ◌+◌, ◌≡◌, ◌&&◌, List, Err}
 use Rattle.std.proofs.Common.{ap}
 use Rattle.ring_laws.specs.Table.{unlinked}
 use Rattle.model.specs.declared.Counts.{Counts}
 use Rattle.model.specs.declared.Refusal.{Refusal}
 use Rattle.model.specs.Counts.{total, is_head, is_link, is_linkage, both}
-use Rattle.model.specs.declared.answer.Answer.TheVariants.{Refused}
 use Rattle.model.specs.declared.call.SetCall.{SetCall}
 use Rattle.model.specs.declared.call.SetCall.TheVariants.{Out, Follow, Precede, Into, Clear}
 use Rattle.model_laws.specs.Called.{called, if_accepted}
@@ -19,7 +18,7 @@ use Rattle.simset_laws.specs.Plain.{links_after}
 use Rattle.simset_laws.specs.Told.{head_told, set_told, set_answered}
 use Rattle.simset_laws.specs.Kept.{if_kept, entry_kept, own_if, own_entry, no_linkage, no_number}
 
-links_kept : (c : Counts) (k : SetCall) (t : List ℕ) (r : Refusal) → (links_after c k t).answer ≡ Refused r → (links_after c k t).links ≡ t
+links_kept : (c : Counts) (k : SetCall) (t : List ℕ) (r : Refusal) → (links_after c k t).answer ≡ Err r → (links_after c k t).links ≡ t
 unfolding out_step follow_step precede_step into_step clear_step
 links_kept c (Out x) t r e = if_kept (is_link c x) t (unlinked (total c + 1) x t) r e
 links_kept c (Follow x y) t r e =
@@ -34,8 +33,8 @@ pub set_steps : (c : Counts) (k : SetCall) → KeepsRefused (on_links (links_aft
 set_steps c k t r e = ap (λ (l : List ℕ). model_of l t.axis t.times t.marks)
     (links_kept c k t.links r e)
 
-own : (c : Counts) (k : SetCall) (t : List ℕ) (r : Refusal) → if_accepted (links_after c k t).answer (set_told c k t) ≡ Refused r
-    → (links_after c k t).answer ≡ Refused r
+own : (c : Counts) (k : SetCall) (t : List ℕ) (r : Refusal) → if_accepted (links_after c k t).answer (set_told c k t) ≡ Err r
+    → (links_after c k t).answer ≡ Err r
 unfolding out_step follow_step precede_step into_step clear_step head_told cardinal_told
 own c (Out x) t r e = own_if (is_link c x) (is_link c x) t _ _ r (λ q. q) (no_linkage _ r) e
 own c (Follow x y) t r e =

@@ -1,17 +1,16 @@
 -- Demand 2 for the class SIMSET: for every well-formed model each set call does what the plain call does to the lists, refused by 3 or 10
 -- on their conditions alone and then with every word as it was, and tells what request 2.1 asks for; a query answers what the lists say,
 -- or 3 on its condition.
-use Rattle.std.specs.Prelude.{ℕ, ◌+◌, ◌<◌, ◌≡◌, Bool, true, false, ◌&&◌, List, length}
+use Rattle.std.specs.Prelude.{ℕ, ◌+◌, ◌<◌, ◌≡◌, Bool, true, false, ◌&&◌, List, length, Ok}
 use Rattle.std.proofs.Math.Path.{refl, ap}
 use Rattle.std.proofs.Common.{sym, ◌∙◌, arith}
 use Rattle.ring_laws.specs.Lists.{test}
 use Rattle.ring_laws.specs.Rings.{Link}
 use Rattle.model.specs.declared.Counts.{Counts}
 use Rattle.model.specs.Counts.{total, is_head, is_link, is_linkage, both}
-use Rattle.model.specs.declared.answer.Answer.{Answer}
+use Rattle.model.specs.Answers.{Answered, linkage, number, truth}
 use Rattle.model.specs.declared.answer.Answer.TheVariants.{Linkage, Number, Truth}
-use Rattle.model.specs.declared.verdict.Verdict.{Verdict}
-use Rattle.model.specs.declared.verdict.Verdict.TheVariants.{Fine}
+use Rattle.model.specs.Answers.{Verdict}
 use Rattle.model.specs.declared.call.SetCall.{SetCall}
 use Rattle.model.specs.declared.call.SetCall.TheVariants.{Out, Follow, Precede, Into, Clear}
 use Rattle.model_laws.specs.Tables.{Tables, Lists, After, Sized, set_head, members_of, SpellsSets, Limited, Spells, model_of}
@@ -42,18 +41,18 @@ module _ (c : Counts) (l : Lists) (t : Tables) (z : Sized c t) (s : Spells c l t
   abbrev m : ℕ
   m = total c + 1
 
-  fine : judged c t ≡ Fine
+  fine : judged c t ≡ (Ok tt)
   fine = (judged_says c t).fine z (l, s)
 
   heads_in : c.heads < m
   heads_in = omega arith
 
   -- a well-formed model is not turned down by 1 or 2
-  pub called_is : (f : Tables → After Answer) → called c f t ≡ f t
+  pub called_is : (f : Tables → After Answered) → called c f t ≡ f t
   unfolding called
   called_is f = ap (λ (v : Verdict). turning v t (f t)) fine
 
-  pub asked_is : (f : Tables → Answer) → asked c f t ≡ f t
+  pub asked_is : (f : Tables → Answered) → asked c f t ≡ f t
   unfolding asked
   asked_is f = ap (λ (v : Verdict). telling v (f t)) fine
 
@@ -137,9 +136,9 @@ module _ (c : Counts) (l : Lists) (t : Tables) (z : Sized c t) (s : Spells c l t
       (clear_limited x l.sets s.limited)
 
   -- what is told before a call that is done: the head in whose list x stands, and of a head how many its list has
-  head_told_lem : (x : ℕ) → is_link c x ≡ true → head_told c x t.links ≡ Linkage (head_of x l.sets)
+  head_told_lem : (x : ℕ) → is_link c x ≡ true → head_told c x t.links ≡ Ok (Linkage (head_of x l.sets))
   unfolding head_told
-  head_told_lem x e = rw e (ap Linkage (head_says m c.heads l.sets t.links s.links heads_in x (link_of c x e)))
+  head_told_lem x e = rw e (ap linkage (head_says m c.heads l.sets t.links s.links heads_in x (link_of c x e)))
 
   set_told_lem : (k : SetCall) → kinds_fine c k ≡ true → set_told c k t.links ≡ set_tells k l.sets
   unfolding cardinal_told
@@ -147,7 +146,7 @@ module _ (c : Counts) (l : Lists) (t : Tables) (z : Sized c t) (s : Spells c l t
   set_told_lem (Follow x y) e = head_told_lem x (both (is_link c x) (or_none (is_linkage c y) y) e).0
   set_told_lem (Precede x y) e = head_told_lem x (both (is_link c x) (or_none (is_linkage c y) y) e).0
   set_told_lem (Into x y) e = head_told_lem x (both (is_link c x) (or_none (is_head c y) y) e).0
-  set_told_lem (Clear x) e = rw e (ap Number (cardinal_says m c.heads l.sets t.links s.links heads_in x (head_of_lem c x e)))
+  set_told_lem (Clear x) e = rw e (ap number (cardinal_says m c.heads l.sets t.links s.links heads_in x (head_of_lem c x e)))
 
   -- the public calls are the steps on judged tables, and tell what the lists before them say
   pub set_means : (k : SetCall) → Tells c t (set_tells k l.sets) (set_call c k l) (called c (set_answered c k) t)
@@ -160,41 +159,41 @@ module _ (c : Counts) (l : Lists) (t : Tables) (z : Sized c t) (s : Spells c l t
   -- ---- the queries
 
   -- refused by its test, or told as the lists say
-  told_by_lem : (b : Bool) (f : List ℕ → Answer) (v r : Answer) → f t.links ≡ told_if b v → (b ≡ true → v ≡ r)
+  told_by_lem : (b : Bool) (f : List ℕ → Answered) (v r : Answered) → f t.links ≡ told_if b v → (b ≡ true → v ≡ r)
       → asked c (of_links f) t ≡ told_if b r
   told_by_lem b f v r e w = asked_is (of_links f) ∙ e ∙ test b (λ q. rw q (w q)) (λ q. rw q refl)
 
-  suc_told_lem : (x : ℕ) → x < m → Linkage (suc_of c.heads x t.links) ≡ Linkage (suc_sets x l.sets)
-  suc_told_lem x b = ap Linkage (suc_says m c.heads l.sets t.links s.links heads_in x b)
+  suc_told_lem : (x : ℕ) → x < m → linkage (suc_of c.heads x t.links) ≡ Ok (Linkage (suc_sets x l.sets))
+  suc_told_lem x b = ap linkage (suc_says m c.heads l.sets t.links s.links heads_in x b)
 
-  pred_told_lem : (x : ℕ) → x < m → Linkage (pred_of c.heads m x t.links) ≡ Linkage (pred_sets x l.sets)
-  pred_told_lem x b = ap Linkage (pred_says m c.heads l.sets t.links s.links heads_in x b)
+  pred_told_lem : (x : ℕ) → x < m → linkage (pred_of c.heads m x t.links) ≡ Ok (Linkage (pred_sets x l.sets))
+  pred_told_lem x b = ap linkage (pred_says m c.heads l.sets t.links s.links heads_in x b)
 
   module _ (x : ℕ) where
-    pub first_means : asked c (of_links (first_told c x)) t ≡ told_if (is_head c x) (Linkage (suc_sets x l.sets))
+    pub first_means : asked c (of_links (first_told c x)) t ≡ told_if (is_head c x) (Ok (Linkage (suc_sets x l.sets)))
     unfolding first_told
     first_means = told_by_lem (is_head c x) (first_told c x) _ _ refl (λ e. suc_told_lem x (head_in c x e))
 
-    pub last_means : asked c (of_links (last_told c x)) t ≡ told_if (is_head c x) (Linkage (pred_sets x l.sets))
+    pub last_means : asked c (of_links (last_told c x)) t ≡ told_if (is_head c x) (Ok (Linkage (pred_sets x l.sets)))
     unfolding last_told
     last_means = told_by_lem (is_head c x) (last_told c x) _ _ refl (λ e. pred_told_lem x (head_in c x e))
 
-    pub suc_means : asked c (of_links (suc_told c x)) t ≡ told_if (is_linkage c x) (Linkage (suc_sets x l.sets))
+    pub suc_means : asked c (of_links (suc_told c x)) t ≡ told_if (is_linkage c x) (Ok (Linkage (suc_sets x l.sets)))
     unfolding suc_told
     suc_means = told_by_lem (is_linkage c x) (suc_told c x) _ _ refl (λ e. suc_told_lem x (linkage_in c x e))
 
-    pub pred_means : asked c (of_links (pred_told c x)) t ≡ told_if (is_linkage c x) (Linkage (pred_sets x l.sets))
+    pub pred_means : asked c (of_links (pred_told c x)) t ≡ told_if (is_linkage c x) (Ok (Linkage (pred_sets x l.sets)))
     unfolding pred_told
     pred_means = told_by_lem (is_linkage c x) (pred_told c x) _ _ refl (λ e. pred_told_lem x (linkage_in c x e))
 
-    pub empty_means : asked c (of_links (empty_told c x)) t ≡ told_if (is_head c x) (Truth (no_links (members_of l.sets x)))
+    pub empty_means : asked c (of_links (empty_told c x)) t ≡ told_if (is_head c x) (Ok (Truth (no_links (members_of l.sets x))))
     unfolding empty_told
     empty_means =
         told_by_lem (is_head c x) (empty_told c x) _ _ refl
-        (λ e. ap Truth (empty_says m c.heads l.sets t.links s.links heads_in x (head_of_lem c x e)))
+        (λ e. ap truth (empty_says m c.heads l.sets t.links s.links heads_in x (head_of_lem c x e)))
 
-    pub cardinal_means : asked c (of_links (cardinal_told c x)) t ≡ told_if (is_head c x) (Number (length (members_of l.sets x)))
+    pub cardinal_means : asked c (of_links (cardinal_told c x)) t ≡ told_if (is_head c x) (Ok (Number (length (members_of l.sets x))))
     unfolding cardinal_told
     cardinal_means =
         told_by_lem (is_head c x) (cardinal_told c x) _ _ refl
-        (λ e. ap Number (cardinal_says m c.heads l.sets t.links s.links heads_in x (head_of_lem c x e)))
+        (λ e. ap number (cardinal_says m c.heads l.sets t.links s.links heads_in x (head_of_lem c x e)))

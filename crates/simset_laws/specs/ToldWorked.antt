@@ -1,10 +1,10 @@
 -- Request 2.1 worked out: set calls one after the other from the fresh model, and what each answers, on lists and on tables, by one check.
-use Rattle.std.specs.Prelude.{◌≡◌, refl, Bool, true, ◌&&◌, List, [], ◌∷◌, eqb}
+use Rattle.std.specs.Prelude.{◌≡◌, refl, Bool, true, ◌&&◌, List, [], ◌∷◌, eqb, Ok, Err}
 use Rattle.ring_laws.specs.Table.{unlinked, linked_behind, linked_before, self_linked, steps}
 use Rattle.model.specs.declared.Counts.{Counts}
 use Rattle.model.specs.declared.Refusal.TheVariants.{Operand}
-use Rattle.model.specs.declared.answer.Answer.{Answer}
-use Rattle.model.specs.declared.answer.Answer.TheVariants.{Linkage, Number, Refused}
+use Rattle.model.specs.Answers.{Answered}
+use Rattle.model.specs.declared.answer.Answer.TheVariants.{Linkage, Number}
 use Rattle.model.specs.Answers.{code_of, value_of}
 use Rattle.model.specs.declared.call.SetCall.{SetCall}
 use Rattle.model.specs.declared.call.SetCall.TheVariants.{Out, Follow, Precede, Into, Clear}
@@ -24,34 +24,34 @@ c = record { heads = 2; processes = 1; plains = 3 }
 
 pub record Row : Type 0 where
   pub call : SetCall
-  pub answer : Answer
+  pub answer : Answered
 
-abbrev row : SetCall → Answer → Row
+abbrev row : SetCall → Answered → Row
 row k a = record { call = k; answer = a }
 
 unfoldable pub rows : List Row
 rows =
-    row (Out 4) (Linkage 0)
-    ∷ row (Into 4 1) (Linkage 0)
-    ∷ row (Into 5 1) (Linkage 0)
-    ∷ row (Follow 6 4) (Linkage 0)  -- set 1 is 4 6 5
-    ∷ row (Into 4 1) (Linkage 1)  -- moved within its set: 6 5 4
-    ∷ row (Precede 6 5) (Linkage 1)  -- and where it stood
-    ∷ row (Follow 5 5) (Linkage 1)  -- follows itself: 6 4
-    ∷ row (Precede 4 5) (Linkage 1)  -- 5 is in no set: 6
-    ∷ row (Into 4 7) (Refused Operand)
-    ∷ row (Follow 6 0) (Linkage 1)  -- none as y
-    ∷ row (Into 3 2) (Linkage 0)
-    ∷ row (Into 4 2) (Linkage 0)
-    ∷ row (Into 5 2) (Linkage 0)  -- set 2 is 3 4 5
-    ∷ row (Precede 4 1) (Linkage 2)
-    ∷ row (Out 4) (Linkage 1)
-    ∷ row (Clear 1) (Number 0)
-    ∷ row (Clear 2) (Number 2)
-    ∷ row (Clear 3) (Refused Operand)
+    row (Out 4) (Ok (Linkage 0))
+    ∷ row (Into 4 1) (Ok (Linkage 0))
+    ∷ row (Into 5 1) (Ok (Linkage 0))
+    ∷ row (Follow 6 4) (Ok (Linkage 0))  -- set 1 is 4 6 5
+    ∷ row (Into 4 1) (Ok (Linkage 1))  -- moved within its set: 6 5 4
+    ∷ row (Precede 6 5) (Ok (Linkage 1))  -- and where it stood
+    ∷ row (Follow 5 5) (Ok (Linkage 1))  -- follows itself: 6 4
+    ∷ row (Precede 4 5) (Ok (Linkage 1))  -- 5 is in no set: 6
+    ∷ row (Into 4 7) (Err Operand)
+    ∷ row (Follow 6 0) (Ok (Linkage 1))  -- none as y
+    ∷ row (Into 3 2) (Ok (Linkage 0))
+    ∷ row (Into 4 2) (Ok (Linkage 0))
+    ∷ row (Into 5 2) (Ok (Linkage 0))  -- set 2 is 3 4 5
+    ∷ row (Precede 4 1) (Ok (Linkage 2))
+    ∷ row (Out 4) (Ok (Linkage 1))
+    ∷ row (Clear 1) (Ok (Number 0))
+    ∷ row (Clear 2) (Ok (Number 2))
+    ∷ row (Clear 3) (Err Operand)
     ∷ []
 
-abbrev pub same : Answer → Answer → Bool
+abbrev pub same : Answered → Answered → Bool
 same a b = eqb (code_of a) (code_of b) && eqb (value_of a) (value_of b)
 
 -- on lists: a refused call leaves them and answers its refusal
@@ -59,8 +59,8 @@ abbrev pub left : Lists → Result Lists → Lists
 left l (refused q) = l
 left l (done k) = k
 
-abbrev pub answered : Answer → Result Lists → Answer
-answered v (refused q) = Refused q
+abbrev pub answered : Answered → Result Lists → Answered
+answered v (refused q) = Err q
 answered v (done k) = v
 
 abbrev listed : List Row → Lists → Bool

@@ -1,6 +1,6 @@
 -- What each sequencing call means, for every well-formed model: refused with the plain call's refusal and nothing changed, or done, and
 -- the tables spell the lists that the plain call leaves.
-use Rattle.std.specs.Prelude.{ℕ, ◌+◌, ◌-◌, ◌<◌, ◌≡◌, ◌≢◌, Bool, ◌&&◌, ◌||◌, List, eqb, leb, ℤ}
+use Rattle.std.specs.Prelude.{ℕ, ◌+◌, ◌-◌, ◌<◌, ◌≡◌, ◌≢◌, Bool, ◌&&◌, ◌||◌, List, eqb, leb, ℤ, Ok, Err}
 use Rattle.std.proofs.Math.Path.{refl, ap, subst}
 use Rattle.std.proofs.Common.{sym, ◌∙◌}
 use Rattle.std.proofs.Math.Bool.{true, false, not}
@@ -10,7 +10,7 @@ use Rattle.ring_laws.specs.Lists.{decide, test, clash}
 use Rattle.model.specs.declared.Counts.{Counts}
 use Rattle.model.specs.declared.Refusal.TheVariants.{Operand, NoNotice}
 use Rattle.model.specs.Counts.{total, main, is_head, is_process, is_link}
-use Rattle.model.specs.declared.answer.Answer.TheVariants.{Done, Linkage, Refused}
+use Rattle.model.specs.declared.answer.Answer.TheVariants.{Done, Linkage}
 use Rattle.axis_laws.specs.Notices.{Notice}
 use Rattle.model_laws.specs.Tables.{Tables, Lists, Sized, Spells, model_of, SpellsSets}
 use Rattle.model_laws.specs.Formed.{notice_process}
@@ -45,6 +45,7 @@ use Rattle.simulation_laws.specs.Replace.{timed_drop_first, timed_plain}
 use Rattle.simulation_laws.proofs.Replace.{drop_first}
 use Rattle.simulation_laws.proofs.AgreeTimed.{timed_agrees}
 use Rattle.simulation_laws.specs.Meaning.{main_refused, plain_refused}
+use Rattle.model.specs.Answers.{linkage}
 
 module _ (c : Counts) (l : Lists) (t : Tables) (w : Sized c t) (s : Spells c l t) where
   sp : Split l.notices
@@ -168,7 +169,7 @@ module _ (c : Counts) (l : Lists) (t : Tables) (w : Sized c t) (s : Spells c l t
   unfolding wait_step wait
   wait_lone y g f q =
       rw (g, full_is y g ∙ f, f, q)
-      (subst (λ (r : Result Lists). Follows c t r (record { tables = t; answer = Refused NoNotice }))
+      (subst (λ (r : Result Lists). Follows c t r (record { tables = t; answer = Err NoNotice }))
       (sym (lone_leaves c l t s sp.head sp.rest sp.is (with_sets l (waiting y)) q)) (refl, refl))
 
   entered : (y : ℕ) → or_none (is_head c y) y ≡ true → exceeds (waiting y) ≡ false
@@ -204,17 +205,17 @@ module _ (c : Counts) (l : Lists) (t : Tables) (w : Sized c t) (s : Spells c l t
               times = (drop_on (half c) (first_of (half c) t.axis) (sqs_of t)).times;
               marks = t.marks;
             };
-            answer = Done;
+            answer = Ok Done;
           })
       waited (refused r) k = let z : false ≡ true = cc in clash z
       waited (done m) k = k
 
   -- what is told before it: the head in whose list current stands
-  pub wait_says : wait_told c t.links t.axis ≡ Linkage (head_of (current l) l.sets)
+  pub wait_says : wait_told c t.links t.axis ≡ Ok (Linkage (head_of (current l) l.sets))
   unfolding wait_told
   wait_says =
       rw here
-      (ap Linkage (head_says (total c + 1) c.heads l.sets t.links s.links (omega arith) (current l)
+      (ap linkage (head_says (total c + 1) c.heads l.sets t.links s.links (omega arith) (current l)
       (link_of c (current l) current_link)))
 
   pub cancel_means : (x : ℕ) → Follows c t (cancel c x l) (called c (on_sqs (λ k a. cancel_step c x a)) t)

@@ -11,7 +11,7 @@ use Rattle.ring_laws.specs.Lists.{In, test}
 use Rattle.ring_laws.specs.Distinct.{Dist}
 use Rattle.model.specs.declared.Counts.{Counts}
 use Rattle.model.specs.Counts.{main, is_head, is_process}
-use Rattle.model.specs.declared.answer.Answer.{Answer}
+use Rattle.model.specs.Answers.{Answered}
 use Rattle.axis_laws.specs.Notices.{Notice, whos, InOrder}
 use Rattle.model_laws.specs.Tables.{Tables, Lists, After, Sized, Spells}
 use Rattle.model_laws.specs.Formed.{notice_each, notice_process}
@@ -121,7 +121,7 @@ module _ (c : Counts) (l : Lists) (t : Tables) (w : Sized c t) (s : Spells c l t
   no_zero : In 0 (whos l.notices) → ⊥
   no_zero i = omega (arith, notice_process c l t s 0 i)
 
-  leaves : (r q : Result Lists) (a : After Answer) → r ≡ q → Follows c t q a → Follows c t r a
+  leaves : (r q : Result Lists) (a : After Answered) → r ≡ q → Follows c t q a → Follows c t r a
   leaves r q a p f = subst (λ (r : Result Lists). Follows c t r a) (sym p) f
 
   pub hold_leaves : (T : ℤ) → Follows c t (published.hold T l) (called c (on_sqs (λ k a. hold_step c T a)) t)

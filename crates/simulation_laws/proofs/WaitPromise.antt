@@ -1,5 +1,5 @@
 -- What wait's code answers, from its tests and calls: refused by 3, 10 or 4 in this order, or done.
-use Rattle.std.specs.Prelude.{ℕ, ◌+◌, ◌≡◌, Bool, true, false}
+use Rattle.std.specs.Prelude.{ℕ, ◌+◌, ◌≡◌, Bool, true, false, Ok, Err}
 use Rattle.std.proofs.Math.Path.{sym, ap}
 use Rattle.std.proofs.Common.{◌∙◌}
 use mathlib.Core.List.{List}
@@ -7,7 +7,7 @@ use Rattle.ring_laws.specs.Table.{Sound, Made}
 use Rattle.model.specs.declared.Counts.{Counts}
 use Rattle.model.specs.declared.Refusal.TheVariants.{Operand, NoNotice, Full}
 use Rattle.model.specs.Counts.{total, is_head, linkage_at}
-use Rattle.model.specs.declared.answer.Answer.TheVariants.{Done, Refused}
+use Rattle.model.specs.declared.answer.Answer.TheVariants.{Done}
 use Rattle.model_laws.specs.Now.{AxisSound, half, first_of}
 use Rattle.simset_laws.specs.Calls.{or_none}
 use Rattle.simset_laws.specs.Procedures.{preceded}
@@ -24,7 +24,7 @@ use Rattle.simulation_laws.specs.WaitPromise.{WaitEntered, current_link, made_3,
 -- with the bounds
 module _ (c : Counts) (y : ℕ) (links axis times bounds : List ℕ) (sound : Sound (total c + 1) links) where
   pub wait_3 : AxisSound (half c) axis → Covers c 0 links bounds → or_none (is_head c y) y ≡ false
-      → WaitEntered c links (wait_step c y links (sqs axis times)) links axis times bounds (Refused Operand)
+      → WaitEntered c links (wait_step c y links (sqs axis times)) links axis times bounds (Err Operand)
   wait_3 s v e = record { waited = made_3 c y links axis times sound s e; covers = λ w. v }
 
   module _ (e : or_none (is_head c y) y ≡ true) (j : Judged c axis) (f x : ℕ) (p : Place (half c) (first_of (half c) axis) f)
@@ -36,16 +36,16 @@ module _ (c : Counts) (y : ℕ) (links axis times bounds : List ℕ) (sound : So
     not_entered : Linking c links → Covers c 0 links bounds
     not_entered w = covers_less c (set_at (total c + 1) c.heads y links) links bounds t.covers
 
-    pub wait_10 : full ≡ true → WaitEntered c links (wait_step c y links (sqs axis times)) links axis times bounds (Refused Full)
+    pub wait_10 : full ≡ true → WaitEntered c links (wait_step c y links (sqs axis times)) links axis times bounds (Err Full)
     wait_10 q = record { waited = made_10 c y links axis times sound e j full its_full q; covers = not_entered }
 
     module _ (room : full ≡ false) (b : Bool) (l : Lone (half c) axis b) where
-      pub wait_4 : b ≡ true → WaitEntered c links (wait_step c y links (sqs axis times)) links axis times bounds (Refused NoNotice)
+      pub wait_4 : b ≡ true → WaitEntered c links (wait_step c y links (sqs axis times)) links axis times bounds (Err NoNotice)
       wait_4 q = record { waited = made_4 c y links axis times sound e j full its_full room b l q; covers = not_entered }
 
       pub wait_0 : (k a t' : List ℕ) → b ≡ false → Made (total c + 1) (preceded (total c + 1) x y links) k
           → Left (half c) (drop_on (half c) f (sqs axis times)) a t'
-          → WaitEntered c links (wait_step c y links (sqs axis times)) k a t' bounds Done
+          → WaitEntered c links (wait_step c y links (sqs axis times)) k a t' bounds (Ok Done)
       wait_0 k a t' q mk lf =
           record {
             waited = made_0 c y links axis times sound e j full its_full room b l f x k a t' q p ex mk lf;

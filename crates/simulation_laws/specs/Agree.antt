@@ -1,8 +1,8 @@
 -- Hold on tables that spell lists does what the plain call does to the lists, with the same refusals; and what agreeing means.
-use Rattle.std.specs.Prelude.{ℕ, ◌≡◌, List}
+use Rattle.std.specs.Prelude.{ℕ, ◌≡◌, List, Ok, Err}
 use Rattle.std.proofs.Common.{ap}
 use Rattle.model.specs.declared.Counts.{Counts}
-use Rattle.model.specs.declared.answer.Answer.TheVariants.{Done, Refused}
+use Rattle.model.specs.declared.answer.Answer.TheVariants.{Done}
 use Rattle.axis_laws.specs.Notices.{Notice}
 use Rattle.model_laws.specs.Tables.{Tables, Lists, Spells, model_of}
 use Rattle.model_laws.specs.Result.{done, refused, Result, Follows}
@@ -22,13 +22,13 @@ with_marks t l = model_of t.links t.axis t.times l
 
 -- refused: the number, and the tables as they were; done: the tables spell the machine's next
 abbrev pub Agrees : Counts → Tables → Result Lists → Outcome → Type 0
-Agrees c t (refused n) o = (o.answer ≡ Refused n) × (o.left ≡ sqs_of t)
-Agrees c t (done m) o = (o.answer ≡ Done) × Spells c m (with_sqs t o.left)
+Agrees c t (refused n) o = (o.answer ≡ Err n) × (o.left ≡ sqs_of t)
+Agrees c t (done m) o = (o.answer ≡ (Ok Done)) × Spells c m (with_sqs t o.left)
 
 -- the same with marks
 abbrev pub AgreesMarked : Counts → Tables → Result Lists → Outcome → List ℕ → Type 0
-AgreesMarked c t (refused i) o l = (o.answer ≡ Refused i) × (o.left ≡ sqs_of t) × (l ≡ t.marks)
-AgreesMarked c t (done m) o l = (o.answer ≡ Done) × Spells c m (with_marks (with_sqs t o.left) l)
+AgreesMarked c t (refused i) o l = (o.answer ≡ Err i) × (o.left ≡ sqs_of t) × (l ≡ t.marks)
+AgreesMarked c t (done m) o l = (o.answer ≡ (Ok Done)) × Spells c m (with_marks (with_sqs t o.left) l)
 
 module _ (c : Counts) (M : Lists) (t : Tables) (sp : Spells c M t) where
   pub its_time : SpellsTime c M.notices (sqs_of t)

@@ -1,10 +1,10 @@
 -- The sequencing calls on judged tables: refusal 3 by the operands, of wait 10, else the published procedure with its refusals 4, 5 and 6.
-use Rattle.std.specs.Prelude.{ℕ, ◌+◌, ◌-◌, Bool, List, eqb, leb, ℤ, get_or, if◌then◌else◌}
+use Rattle.std.specs.Prelude.{ℕ, ◌+◌, ◌-◌, Bool, List, eqb, leb, ℤ, get_or, if◌then◌else◌, Ok, Err}
 use Rattle.model.specs.declared.Counts.{Counts}
 use Rattle.model.specs.declared.Refusal.TheVariants.{Operand, NoNotice, Idle, Full}
 use Rattle.model.specs.Counts.{total, is_head, is_process, place_of, linkage_at}
-use Rattle.model.specs.declared.answer.Answer.{Answer}
-use Rattle.model.specs.declared.answer.Answer.TheVariants.{Linkage, Number, Truth, Refused}
+use Rattle.model.specs.Answers.{Answered}
+use Rattle.model.specs.declared.answer.Answer.TheVariants.{Linkage, Number, Truth}
 use Rattle.model_laws.specs.Tables.{Tables, After, model_of}
 use Rattle.model_laws.specs.Now.{half, time_of, first_of}
 use Rattle.simset_laws.specs.Calls.{or_none, told_if}
@@ -63,42 +63,42 @@ wait_step c y links a =
     else record { links = links; outcome = turned_down Operand a }
 
 -- before it: the head of the ring on which current lies, or none
-unfoldable pub wait_told : Counts → List ℕ → List ℕ → Answer
-wait_told c links axis = Linkage (head_at (total c + 1) c.heads (linkage_at c (first_of (half c) axis)) links)
+unfoldable pub wait_told : Counts → List ℕ → List ℕ → Answered
+wait_told c links axis = Ok (Linkage (head_at (total c + 1) c.heads (linkage_at c (first_of (half c) axis)) links))
 
 -- ---- queries: a process is read, so none is refused
 
-unfoldable pub current_told : Counts → Sqs → Answer
-current_told c a = Linkage (linkage_at c (first_of (half c) a.axis))
+unfoldable pub current_told : Counts → Sqs → Answered
+current_told c a = Ok (Linkage (linkage_at c (first_of (half c) a.axis)))
 
-unfoldable pub time_told : Counts → Sqs → Answer
-time_told c a = Number (time_of (half c) a.axis a.times)
+unfoldable pub time_told : Counts → Sqs → Answered
+time_told c a = Ok (Number (time_of (half c) a.axis a.times))
 
 -- "idle := EVENT == none"
-unfoldable pub idle_told : Counts → ℕ → Sqs → Answer
-idle_told c x a = told_if (is_process c x) (Truth (idle_at a (place_of c x)))
+unfoldable pub idle_told : Counts → ℕ → Sqs → Answered
+idle_told c x a = told_if (is_process c x) (Ok (Truth (idle_at a (place_of c x))))
 
-unfoldable pub terminated_told : Counts → ℕ → List ℕ → Answer
-terminated_told c x marks = told_if (is_process c x) (Truth (eqb (get_or marks (place_of c x) 0) 1))
+unfoldable pub terminated_told : Counts → ℕ → List ℕ → Answered
+terminated_told c x marks = told_if (is_process c x) (Ok (Truth (eqb (get_or marks (place_of c x) 0) 1)))
 
 -- "if idle then ERROR else evtime := EVENT.EVTIME": refusal 6
-unfoldable pub evtime_told : Counts → ℕ → Sqs → Answer
+unfoldable pub evtime_told : Counts → ℕ → Sqs → Answered
 evtime_told c x a =
-    told_if (is_process c x) (if idle_at a (place_of c x) then Refused Idle else Number (get_or a.times (place_of c x) 0))
+    told_if (is_process c x) (if idle_at a (place_of c x) then Err Idle else Ok (Number (get_or a.times (place_of c x) 0)))
 
 -- "nextev :- if idle then none else if EVENT.suc == none then none else EVENT.suc.PROC"
-unfoldable pub nextev_told : Counts → ℕ → Sqs → Answer
+unfoldable pub nextev_told : Counts → ℕ → Sqs → Answered
 nextev_told c x a =
     told_if (is_process c x)
-    (if idle_at a (place_of c x) then Linkage 0
-    else (if eqb (next_on a (place_of c x)) (half c - 1) then Linkage 0 else Linkage (linkage_at c (next_on a (place_of c x)))))
+    (if idle_at a (place_of c x) then Ok (Linkage 0)
+    else (if eqb (next_on a (place_of c x)) (half c - 1) then Ok (Linkage 0) else Ok (Linkage (linkage_at c (next_on a (place_of c x))))))
 
 -- ---- on the whole model
 
 abbrev pub sqs_of : Tables → Sqs
 sqs_of t = record { axis = t.axis; times = t.times }
 
-abbrev pub on_sqs : (List ℕ → Sqs → Outcome) → Tables → After Answer
+abbrev pub on_sqs : (List ℕ → Sqs → Outcome) → Tables → After Answered
 on_sqs f t =
     let o = f t.marks (sqs_of t) in
     record {
@@ -106,7 +106,7 @@ on_sqs f t =
       answer = o.answer;
     }
 
-abbrev pub on_marks : (List ℕ → Sqs → Marked) → Tables → After Answer
+abbrev pub on_marks : (List ℕ → Sqs → Marked) → Tables → After Answered
 on_marks f t =
     let o = f t.marks (sqs_of t) in
     record {
@@ -114,7 +114,7 @@ on_marks f t =
       answer = o.outcome.answer;
     }
 
-abbrev pub on_sets : (List ℕ → Sqs → Waited) → Tables → After Answer
+abbrev pub on_sets : (List ℕ → Sqs → Waited) → Tables → After Answered
 on_sets f t =
     let o = f t.links (sqs_of t) in
     record {

@@ -1,11 +1,10 @@
 -- A refused sequencing call changes no word, whatever the tables.
 use Prim.Native.Nat.{ℕ}
-use Rattle.std.specs.Prelude.{◌≡◌, refl, Bool, List, if◌then◌else◌}
+use Rattle.std.specs.Prelude.{◌≡◌, refl, Bool, List, if◌then◌else◌, Err}
 use Rattle.std.proofs.Common.{ap}
 use Rattle.std.proofs.Math.Bool.{true, false}
 use Rattle.ring_laws.specs.Lists.{clash}
 use Rattle.model.specs.declared.Refusal.{Refusal}
-use Rattle.model.specs.declared.answer.Answer.TheVariants.{Refused}
 use Rattle.model_laws.specs.Result.{KeepsRefused}
 use Rattle.model_laws.specs.Tables.{model_of}
 use Rattle.simulation_laws.specs.Procedures.{Sqs, Outcome, made, turned_down}
@@ -14,7 +13,7 @@ use Rattle.simulation_laws.specs.Calls.{sqs_of, on_sqs}
 -- ---- on the sequencing set
 
 abbrev pub Keeps : Sqs → Outcome → Type 0
-Keeps a o = (r : Refusal) → o.answer ≡ Refused r → o.left ≡ a
+Keeps a o = (r : Refusal) → o.answer ≡ Err r → o.left ≡ a
 
 pub made_kept : (a b : Sqs) → Keeps a (made b)
 made_kept a b r e = let z : false ≡ true = cc in clash z

@@ -2,13 +2,13 @@
 -- the published text (Published.antt) where a table asks for it: X has one place, so its earlier notice goes before the new one is placed;
 -- T is clamped beforehand; RANK's place is looked for from both ends. PublishedCalls.antt proves that the published text leaves the same.
 -- m is P + 2, the axis's own head (SQS) stands at m - 1, and a process's notice at its place. d is T where that is above 0, else 0.
-use Rattle.std.specs.Prelude.{ℕ, suc, ◌+◌, ◌-◌, max, Bool, not, ◌&&◌, ◌||◌, List, eqb, leb, ltb, get_or, set, if◌then◌else◌}
+use Rattle.std.specs.Prelude.{ℕ, suc, ◌+◌, ◌-◌, max, Bool, not, ◌&&◌, ◌||◌, List, eqb, leb, ltb, get_or, set, if◌then◌else◌, Ok, Err}
 use Rattle.ring_laws.specs.Table.{unlinked, linked_behind}
 use Rattle.model.specs.declared.Refusal.{Refusal}
 use Rattle.model.specs.declared.Refusal.TheVariants.{NoNotice, TimeLimit}
 use Rattle.model.specs.Counts.{limit}
-use Rattle.model.specs.declared.answer.Answer.{Answer}
-use Rattle.model.specs.declared.answer.Answer.TheVariants.{Done, Refused}
+use Rattle.model.specs.Answers.{Answered}
+use Rattle.model.specs.declared.answer.Answer.TheVariants.{Done}
 use Rattle.axis_laws.specs.Seek.{seek_from}
 use Rattle.model_laws.specs.Now.{first_of, next_place, prev_place, idle_on, lone_on, time_of}
 
@@ -19,14 +19,14 @@ pub record Sqs : Type 0 where
 
 -- what a call leaves and answers
 pub record Outcome : Type 0 where
-  pub answer : Answer
+  pub answer : Answered
   pub left : Sqs
 
 abbrev pub made : Sqs → Outcome
-made a = record { answer = Done; left = a }
+made a = record { answer = Ok Done; left = a }
 
 abbrev pub turned_down : Refusal → Sqs → Outcome
-turned_down r a = record { answer = Refused r; left = a }
+turned_down r a = record { answer = Err r; left = a }
 
 -- ---- reading
 

@@ -9,7 +9,7 @@ use Rattle.model.specs.declared.Counts.{Counts}
 use Rattle.model.specs.Counts.{limit, Allowed}
 use Rattle.model_laws.specs.Tables.{Tables}
 use Rattle.model_laws.specs.Ready.{Ready}
-use Rattle.model.specs.declared.answer.Answer.{Answer}
+use Rattle.model.specs.Answers.{Answered}
 use Rattle.model_laws.specs.Now.{AxisSound, half, first_of, prev_place, idle_on, lone_on}
 use Rattle.simulation_laws.specs.Procedures.{Sqs, Outcome, vain, due_at}
 
@@ -22,7 +22,7 @@ pub record Left (m : ℕ) (want : Sqs) (axis times : List ℕ) : Type 0 where
   pub sound : AxisSound m axis
 
 -- and the answer is
-pub record Answers (m : ℕ) (want : Outcome) (axis times : List ℕ) (r : Answer) : Type 0 where
+pub record Answers (m : ℕ) (want : Outcome) (axis times : List ℕ) (r : Answered) : Type 0 where
   pub is : record { answer = r; left = sqs axis times } ≡ want
   pub sound : AxisSound m axis
 
@@ -84,7 +84,7 @@ pub record Due (k y d now : ℕ) (times : List ℕ) (r : ℕ) : Type 0 where
   pub is : r ≡ capped (due_at k y d now times)
 
 -- the tables are as wanted, and the answer, and the marks
-pub record AnswersMarked (m : ℕ) (want : Outcome) (wantMarks : List ℕ) (axis times marks : List ℕ) (r : Answer) : Type 0 where
+pub record AnswersMarked (m : ℕ) (want : Outcome) (wantMarks : List ℕ) (axis times marks : List ℕ) (r : Answered) : Type 0 where
   pub is : record { answer = r; left = sqs axis times } ≡ want
   pub sound : AxisSound m axis
   pub marked : marks ≡ wantMarks

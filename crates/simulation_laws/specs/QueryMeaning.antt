@@ -1,5 +1,5 @@
 -- What the queries of SIMULATION tell, for every well-formed model: what the list of notices and the terminated processes say.
-use Rattle.std.specs.Prelude.{ℕ, ◌+◌, ◌-◌, ◌<◌, ◌≡◌, refl, ◌≢◌, Bool, true, false, List, [], ◌∷◌, leb, ltb, if◌then◌else◌}
+use Rattle.std.specs.Prelude.{ℕ, ◌+◌, ◌-◌, ◌<◌, ◌≡◌, refl, ◌≢◌, Bool, true, false, List, [], ◌∷◌, leb, ltb, if◌then◌else◌, Ok, Err}
 use Rattle.std.proofs.Common.{sym, ◌∙◌, inl, inr, arith, eq-eqb, ne_eqb, leb-true, ltb-true}
 use Rattle.std.proofs.Math.Path.{ap}
 use Rattle.std.proofs.Math.Dec.{eqb}
@@ -9,26 +9,26 @@ use Rattle.ring_laws.specs.Chain.{Chain}
 use Rattle.model.specs.declared.Counts.{Counts}
 use Rattle.model.specs.declared.Refusal.TheVariants.{Idle}
 use Rattle.model.specs.Counts.{is_process, linkage_at, both}
-use Rattle.model.specs.declared.answer.Answer.{Answer}
-use Rattle.model.specs.declared.answer.Answer.TheVariants.{Linkage, Number, Refused}
+use Rattle.model.specs.Answers.{Answered, linkage, number}
+use Rattle.model.specs.declared.answer.Answer.TheVariants.{Linkage, Number}
 use Rattle.axis_laws.specs.Notices.{Notice, whos, places, due_of}
 use Rattle.simset_laws.specs.Calls.{told_if}
 use Rattle.axis_laws.specs.NoticeOps.{has_notice, next_after}
 use Rattle.axis_laws.specs.Notices.{Process}
 
 -- what evtime tells
-abbrev pub evtime_of : ℕ → List Notice → Answer
-evtime_of x ns = if has_notice x ns then Number (due_of x ns) else Refused Idle
+abbrev pub evtime_of : ℕ → List Notice → Answered
+evtime_of x ns = if has_notice x ns then number (due_of x ns) else Err Idle
 
 -- what nextev tells: none for an idle process
-abbrev pub nextev_of : ℕ → List Notice → Answer
-nextev_of x ns = if has_notice x ns then Linkage (next_after x ns) else Linkage 0
+abbrev pub nextev_of : ℕ → List Notice → Answered
+nextev_of x ns = if has_notice x ns then linkage (next_after x ns) else linkage 0
 
 -- along the chain of the axis, whose end e is the head
 pub next_chain : (S P : ℕ → ℕ) (c : Counts) (a : ℕ) (ns : List Notice) (e x : ℕ) → Chain S P a (places c ns) e
     → ((y : ℕ) → In y (places c ns) → y ≢ e)
     → ((y : ℕ) → In y (whos ns) → c.heads < y) → In x (whos ns)
-    → (if eqb (S (x - c.heads)) e then Linkage 0 else Linkage (linkage_at c (S (x - c.heads)))) ≡ Linkage (next_after x ns)
+    → (if eqb (S (x - c.heads)) e then linkage 0 else linkage (linkage_at c (S (x - c.heads)))) ≡ linkage (next_after x ns)
 next_chain S P c a [] e x ch f h i = absurd i
 next_chain S P c a (k ∷ []) e x ch f h (inl q) = rw (ap (λ (j : ℕ). S (j - c.heads)) q ∙ ch.1.next, eq-eqb e e refl)
 next_chain S P c a (k ∷ []) e x ch f h (inr i) = absurd i
@@ -41,7 +41,7 @@ next_chain S P c a (k ∷ j ∷ js) e x ch f h i =
       ne_eqb (j.who - c.heads) e (f (j.who - c.heads) (inr (inl refl))),
       eq-eqb k.who x q,
     )
-    (ap Linkage back))
+    (ap linkage back))
     (λ d. rw (ne_eqb k.who x d) (next_chain S P c (k.who - c.heads) (j ∷ js) e x ch.1 (λ y m. f y (inr m)) (λ y m. h y (inr m))
     (later i d)))
   where
@@ -54,7 +54,7 @@ bit_is true = refl
 bit_is false = refl
 
 -- refused by its test, or told as the lists say
-pub told_by_lem : (b : Bool) (a r : Answer) → (b ≡ true → a ≡ r) → told_if b a ≡ told_if b r
+pub told_by_lem : (b : Bool) (a r : Answered) → (b ≡ true → a ≡ r) → told_if b a ≡ told_if b r
 told_by_lem b a r f = test b (λ e. rw e (f e)) (λ e. rw e refl)
 
 pub process_of : (c : Counts) (x : ℕ) → is_process c x ≡ true → Process c x

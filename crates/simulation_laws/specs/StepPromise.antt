@@ -1,5 +1,5 @@
 -- What the calls' code answers, from its tests and calls.
-use Rattle.std.specs.Prelude.{ℕ, ◌+◌, ◌<◌, ◌≤◌, ◌≡◌, ◌≢◌, Bool, true, false, not, ◌&&◌, ◌||◌, leb, ltb, if◌then◌else◌}
+use Rattle.std.specs.Prelude.{ℕ, ◌+◌, ◌<◌, ◌≤◌, ◌≡◌, ◌≢◌, Bool, true, false, not, ◌&&◌, ◌||◌, leb, ltb, if◌then◌else◌, Err}
 use Rattle.std.proofs.Common.{sym, ap₂, ◌∙◌, arith, eq-eqb, ne_eqb, le-leb, leb-true}
 use mathlib.Core.List.{List}
 use Rattle.std.proofs.lemmas.Bool.{lt-leb, not-true, not-false}
@@ -8,8 +8,7 @@ use Rattle.ring_laws.specs.Table.{Sound}
 use Rattle.model.specs.declared.Counts.{Counts}
 use Rattle.model.specs.declared.Refusal.TheVariants.{Operand}
 use Rattle.model.specs.Counts.{total, is_process, place_of, both}
-use Rattle.model.specs.declared.answer.Answer.{Answer}
-use Rattle.model.specs.declared.answer.Answer.TheVariants.{Refused}
+use Rattle.model.specs.Answers.{Answered}
 use Rattle.model_laws.specs.Now.{AxisSound, half, first_of}
 use Rattle.simset_laws.specs.Calls.{or_none}
 use Rattle.simset_laws.specs.Promise.{none_or}
@@ -18,11 +17,11 @@ use Rattle.simulation_laws.specs.Procedures.{Outcome, turned_down, passivated, f
 use Rattle.simulation_laws.specs.Calls.{y_place, Marked, Waited, finish_step}
 use Rattle.simulation_laws.specs.Promise.{sqs, Answers, AnswersMarked, Place, Judged}
 
-pub record FinishMade (c : Counts) (want : Marked) (axis times marks : List ℕ) (r : Answer) : Type 0 where
+pub record FinishMade (c : Counts) (want : Marked) (axis times marks : List ℕ) (r : Answered) : Type 0 where
   pub is : record { outcome = record { answer = r; left = sqs axis times }; marks = marks } ≡ want
   pub sound : AxisSound (half c) axis
 
-pub record WaitMade (c : Counts) (want : Waited) (links axis times : List ℕ) (r : Answer) : Type 0 where
+pub record WaitMade (c : Counts) (want : Waited) (links axis times : List ℕ) (r : Answered) : Type 0 where
   pub is : record { links = links; outcome = record { answer = r; left = sqs axis times } } ≡ want
   pub links_sound : Sound (total c + 1) links
   pub sound : AxisSound (half c) axis
@@ -78,20 +77,20 @@ module _ (c : Counts) (k x y : ℕ) where
 
 module _ (m : ℕ) (b : Bool) (o : Outcome) (axis times : List ℕ) where
   pub refused_3 : AxisSound m axis → b ≡ false → Answers m (if b then o else turned_down Operand (sqs axis times)) axis times
-      (Refused Operand)
+      (Err Operand)
   refused_3 s e = record { is = rw e; sound = s }
 
-  pub passed_3 : (d : Outcome) (r : Answer) → b ≡ true → Answers m o axis times r → Answers m (if b then o else d) axis times r
+  pub passed_3 : (d : Outcome) (r : Answered) → b ≡ true → Answers m o axis times r → Answers m (if b then o else d) axis times r
   passed_3 d r e k = rw e k
 
 -- ---- finish
 
 module _ (c : Counts) (axis times marks : List ℕ) (f : ℕ) (p : Place (half c) (first_of (half c) axis) f) where
-  pub finish_main : AxisSound (half c) axis → f ≡ 1 → FinishMade c (finish_step c marks (sqs axis times)) axis times marks (Refused Operand)
+  pub finish_main : AxisSound (half c) axis → f ≡ 1 → FinishMade c (finish_step c marks (sqs axis times)) axis times marks (Err Operand)
   unfolding finish_step
   finish_main s e = record { is = rw (eq-eqb (first_of (half c) axis) 1 (sym p.is ∙ e)); sound = s }
 
-  pub finish_other : (a t k : List ℕ) (r : Answer) → f ≢ 1
+  pub finish_other : (a t k : List ℕ) (r : Answered) → f ≢ 1
       → AnswersMarked (half c) (passivated (half c) (sqs axis times)) (finished_marks (half c) marks (sqs axis times)) a t k r
       → FinishMade c (finish_step c marks (sqs axis times)) a t k r
   unfolding finish_step

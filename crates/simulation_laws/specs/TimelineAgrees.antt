@@ -1,5 +1,5 @@
 -- The calls on tables that spell a list of notices do what the plain calls do to it, "refusals among them".
-use Rattle.std.specs.Prelude.{ℕ, suc, ◌+◌, ◌-◌, ◌<◌, ◌≤◌, true, not, leb, ℤ, get_or, if◌then◌else◌}
+use Rattle.std.specs.Prelude.{ℕ, suc, ◌+◌, ◌-◌, ◌<◌, ◌≤◌, true, not, leb, ℤ, get_or, if◌then◌else◌, Ok, Err}
 use Rattle.std.proofs.Math.Path.{◌≡◌, refl, sym, subst}
 use Rattle.std.proofs.Common.{ap, ◌∙◌, inl, inr, ⊎_elim, length-set, get_or-set_same, get_or-set_other}
 use mathlib.Core.List.{List, [], ◌∷◌, ◌++◌}
@@ -14,7 +14,7 @@ use Rattle.ring_laws.specs.Stores.{sucs, suc_at}
 use Rattle.model.specs.declared.Counts.{Counts}
 use Rattle.model.specs.declared.Refusal.TheVariants.{NoNotice}
 use Rattle.model.specs.Counts.{limit}
-use Rattle.model.specs.declared.answer.Answer.TheVariants.{Done, Refused}
+use Rattle.model.specs.declared.answer.Answer.TheVariants.{Done}
 use Rattle.axis_laws.specs.Notices.{Notice, whos, due_of}
 use Rattle.model_laws.specs.Tables.{Lists}
 use Rattle.axis_laws.specs.NoticeOps.{behind_all, dropped, has_notice, rest}
@@ -49,8 +49,8 @@ pub record SpellsModel (c : Counts) (M : Lists) (a : Timeline) (marks : List ℕ
 
 -- refused: the number, and the tables as they were; done: the tables spell the machine's next
 abbrev pub Agrees : Counts → Timeline → List ℕ → Result Lists → Outcome → Type 0
-Agrees c a marks (refused n) o = (o.answer ≡ Refused n) × (o.left ≡ a)
-Agrees c a marks (done M) o = (o.answer ≡ Done) × SpellsModel c M o.left marks
+Agrees c a marks (refused n) o = (o.answer ≡ Err n) × (o.left ≡ a)
+Agrees c a marks (done M) o = (o.answer ≡ (Ok Done)) × SpellsModel c M o.left marks
 
 -- ---- what a list of notices says of its tables
 

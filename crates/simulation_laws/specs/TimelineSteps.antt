@@ -1,10 +1,10 @@
 -- Hold, passivate, cancel and ACTIVATE on the tables of the axis; d is T where that is above 0, else 0. As in the one-ring form, with the same refusals.
-use Rattle.std.specs.Prelude.{ℕ, ◌+◌, ◌-◌, Bool, ◌&&◌, ◌||◌, List, eqb, leb, ltb, get_or, set, if◌then◌else◌}
+use Rattle.std.specs.Prelude.{ℕ, ◌+◌, ◌-◌, Bool, ◌&&◌, ◌||◌, List, eqb, leb, ltb, get_or, set, if◌then◌else◌, Ok, Err}
 use Rattle.model.specs.declared.Refusal.{Refusal}
 use Rattle.model.specs.declared.Refusal.TheVariants.{NoNotice, TimeLimit}
 use Rattle.model.specs.Counts.{limit}
-use Rattle.model.specs.declared.answer.Answer.{Answer}
-use Rattle.model.specs.declared.answer.Answer.TheVariants.{Done, Refused}
+use Rattle.model.specs.Answers.{Answered}
+use Rattle.model.specs.declared.answer.Answer.TheVariants.{Done}
 use Rattle.simulation_laws.specs.Procedures.{vain, due_at}
 use Rattle.axis_laws.specs.Timeline.{Timeline, first_of, time_of, idle_at, lone}
 use Rattle.axis_laws.specs.Turned.{turned}
@@ -13,14 +13,14 @@ use Rattle.axis_laws.specs.Procedures.{drop_on, behind_on, front_on, before_on, 
 
 -- what a call leaves and answers
 pub record Outcome : Type 0 where
-  pub answer : Answer
+  pub answer : Answered
   pub left : Timeline
 
 abbrev pub made : Timeline → Outcome
-made a = record { answer = Done; left = a }
+made a = record { answer = Ok Done; left = a }
 
 abbrev pub turned_down : Refusal → Timeline → Outcome
-turned_down r a = record { answer = Refused r; left = a }
+turned_down r a = record { answer = Err r; left = a }
 
 -- ---- hold
 

@@ -1,10 +1,10 @@
 -- Request 2.1 worked out for wait, on tables and on lists: what it answers from a set, within it, from none, on none, and refused.
-use Rattle.std.specs.Prelude.{ℕ, ◌≡◌, refl, Bool, true, ◌&&◌, pos}
+use Rattle.std.specs.Prelude.{ℕ, ◌≡◌, refl, Bool, true, ◌&&◌, pos, Ok, Err}
 use Rattle.ring_laws.specs.Table.{unlinked, linked_behind, linked_before, self_linked}
 use Rattle.model.specs.declared.Counts.{Counts}
 use Rattle.model.specs.declared.Refusal.TheVariants.{NoNotice}
-use Rattle.model.specs.declared.answer.Answer.{Answer}
-use Rattle.model.specs.declared.answer.Answer.TheVariants.{Linkage, Refused}
+use Rattle.model.specs.Answers.{Answered}
+use Rattle.model.specs.declared.answer.Answer.TheVariants.{Linkage}
 use Rattle.model.specs.declared.call.SetCall.TheVariants.{Into}
 use Rattle.model.specs.declared.call.SequencingCall.TheVariants.{Wait, Activate}
 use Rattle.model_laws.specs.Tables.{Tables, Lists}
@@ -40,15 +40,15 @@ abbrev entered_lists : Lists
 entered_lists = left started_lists (set_call c (Into 4 1) started_lists)
 
 -- wait for the set of y, both ways
-abbrev waits : ℕ → Tables → Lists → Answer → Bool
+abbrev waits : ℕ → Tables → Lists → Answered → Bool
 waits y t l a =
     same (sequencing_answered c (Wait y) t).answer a && same (answered (sequencing_tells (Wait y) l) (sequencing_call c (Wait y) l)) a
 
-pub wait_each : waits 2 entered entered_lists (Linkage 1)
-    && waits 1 entered entered_lists (Linkage 1)
-    && waits 0 entered entered_lists (Linkage 1)
-    && waits 2 started started_lists (Linkage 0)
-    && waits 1 (fresh_tables c) (fresh_lists c) (Refused NoNotice) ≡ true
+pub wait_each : waits 2 entered entered_lists (Ok (Linkage 1))
+    && waits 1 entered entered_lists (Ok (Linkage 1))
+    && waits 0 entered entered_lists (Ok (Linkage 1))
+    && waits 2 started started_lists (Ok (Linkage 0))
+    && waits 1 (fresh_tables c) (fresh_lists c) (Err NoNotice) ≡ true
 unfolding fresh_heads fresh_axis fresh_tables self_linked unlinked linked_behind linked_before precede_on preceded into_step first_from head_told
     due_for placed no_effect timed wait seek_from found drop_on put_on vain due_at place_for put_by_clause activated timed_step wait_step wait_told
     full_for sequencing_call

@@ -1,5 +1,5 @@
 -- What wait's code answers, from its tests and calls: refused by 3, 10 or 4 in this order, or done.
-use Rattle.std.specs.Prelude.{ℕ, ◌+◌, ◌≡◌, Bool, true, false}
+use Rattle.std.specs.Prelude.{ℕ, ◌+◌, ◌≡◌, Bool, true, false, Ok, Err}
 use Rattle.std.proofs.Math.Path.{refl, sym, ap}
 use Rattle.std.proofs.Common.{ap₂, ◌∙◌, subst, arith, lt-ltb, le-leb}
 use mathlib.Core.List.{List}
@@ -8,8 +8,8 @@ use Rattle.ring_laws.specs.Table.{Sound, Made}
 use Rattle.model.specs.declared.Counts.{Counts}
 use Rattle.model.specs.declared.Refusal.TheVariants.{Operand, NoNotice, Full}
 use Rattle.model.specs.Counts.{total, is_head, is_link, linkage_at}
-use Rattle.model.specs.declared.answer.Answer.{Answer}
-use Rattle.model.specs.declared.answer.Answer.TheVariants.{Done, Refused}
+use Rattle.model.specs.Answers.{Answered}
+use Rattle.model.specs.declared.answer.Answer.TheVariants.{Done}
 use Rattle.model_laws.specs.Now.{AxisSound, half, first_of}
 use Rattle.simset_laws.specs.Calls.{or_none}
 use Rattle.simset_laws.specs.Procedures.{preceded}
@@ -25,7 +25,7 @@ use Rattle.simulation_laws.specs.Promise.{sqs, Left, Place, Lone, Judged}
 use Rattle.simulation_laws.specs.StepPromise.{WaitMade}
 
 -- a wait as wanted, after which the bounds hold
-pub record WaitEntered (c : Counts) (links₀ : List ℕ) (want : Waited) (links axis times bounds : List ℕ) (r : Answer) : Type 0 where
+pub record WaitEntered (c : Counts) (links₀ : List ℕ) (want : Waited) (links axis times bounds : List ℕ) (r : Answered) : Type 0 where
   pub waited : WaitMade c want links axis times r
   pub covers : Linking c links₀ → Covers c 0 links bounds
 
@@ -51,24 +51,24 @@ current_link c axis j f x p e =
 -- what the tables are then; x is current, and full says whether the set has room for it
 module _ (c : Counts) (y : ℕ) (links axis times : List ℕ) (sound : Sound (total c + 1) links) where
   pub made_3 : AxisSound (half c) axis → or_none (is_head c y) y ≡ false
-      → WaitMade c (wait_step c y links (sqs axis times)) links axis times (Refused Operand)
+      → WaitMade c (wait_step c y links (sqs axis times)) links axis times (Err Operand)
   unfolding wait_step
   made_3 s e = record { is = rw e; links_sound = sound; sound = s }
 
   module _ (e : or_none (is_head c y) y ≡ true) (j : Judged c axis) (full : Bool)
       (ef : full_for c (linkage_at c (first_of (half c) axis)) y links ≡ full) where
-    pub made_10 : full ≡ true → WaitMade c (wait_step c y links (sqs axis times)) links axis times (Refused Full)
+    pub made_10 : full ≡ true → WaitMade c (wait_step c y links (sqs axis times)) links axis times (Err Full)
     unfolding wait_step
     made_10 q = record { is = rw (e, ef ∙ q); links_sound = sound; sound = j.sound }
 
     module _ (room : full ≡ false) (b : Bool) (l : Lone (half c) axis b) where
-      pub made_4 : b ≡ true → WaitMade c (wait_step c y links (sqs axis times)) links axis times (Refused NoNotice)
+      pub made_4 : b ≡ true → WaitMade c (wait_step c y links (sqs axis times)) links axis times (Err NoNotice)
       unfolding wait_step
       made_4 q = record { is = rw (e, ef ∙ room, sym l.is ∙ q); links_sound = sound; sound = j.sound }
 
       pub made_0 : (f x : ℕ) (k a t : List ℕ) → b ≡ false → Place (half c) (first_of (half c) axis) f → x ≡ c.heads + f
           → Made (total c + 1) (preceded (total c + 1) x y links) k → Left (half c) (drop_on (half c) f (sqs axis times)) a t
-          → WaitMade c (wait_step c y links (sqs axis times)) k a t Done
+          → WaitMade c (wait_step c y links (sqs axis times)) k a t (Ok Done)
       unfolding wait_step
       made_0 f x k a t q p ex mk lf =
           record {
@@ -84,7 +84,7 @@ module _ (c : Counts) (y : ℕ) (links axis times : List ℕ) (sound : Sound (to
 module _ (c : Counts) (y : ℕ) (links axis times bounds : List ℕ) (v : Covers c 0 links bounds) (known : known_room c y bounds ≡ true)
     (j : Judged c axis) where
   -- z is the operand that stands for y
-  pub wait_covers : (now : List ℕ) → now ≡ raised c y bounds → (z : ℕ) → y ≡ z → (k a t : List ℕ) (r : Answer)
+  pub wait_covers : (now : List ℕ) → now ≡ raised c y bounds → (z : ℕ) → y ≡ z → (k a t : List ℕ) (r : Answered)
       → WaitMade c (wait_step c z links (sqs axis times)) k a t r → Linking c links → Covers c 0 k now
   unfolding wait_step
   wait_covers now is z same k a t r m w =
@@ -106,10 +106,10 @@ module _ (c : Counts) (y : ℕ) (links axis times bounds : List ℕ) (v : Covers
           (record { is = refl; within = omega (arith, j.first_in_lem) }) refl
 
 -- of the head that an operand stands for
-pub waited_as : (c : Counts) (links : List ℕ) (a : Sqs) (k axis times bounds : List ℕ) (r : Answer) (y y' : ℕ) → y ≡ y'
+pub waited_as : (c : Counts) (links : List ℕ) (a : Sqs) (k axis times bounds : List ℕ) (r : Answered) (y y' : ℕ) → y ≡ y'
     → WaitEntered c links (wait_step c y links a) k axis times bounds r → WaitEntered c links (wait_step c y' links a) k axis times bounds r
 waited_as c links a k axis times bounds r y y' e w = rw e at w
 
-pub made_as : (c : Counts) (links : List ℕ) (a : Sqs) (k axis times : List ℕ) (r : Answer) (y y' : ℕ) → y ≡ y'
+pub made_as : (c : Counts) (links : List ℕ) (a : Sqs) (k axis times : List ℕ) (r : Answered) (y y' : ℕ) → y ≡ y'
     → WaitMade c (wait_step c y links a) k axis times r → WaitMade c (wait_step c y' links a) k axis times r
 made_as c links a k axis times r y y' e w = rw e at w

@@ -1,8 +1,0 @@
-// What a judge says.
-use crate::Refusal;
-
-#[derive(Clone, Copy)]
-pub enum Verdict {
-    Fine,
-    Refused(Refusal),
-}
