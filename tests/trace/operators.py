@@ -12,8 +12,6 @@ ROOT = os.path.dirname(os.path.dirname(os.path.dirname(os.path.abspath(__file__)
 # searched whole: the trace writer, the step's write, the loop and its turns, the run call, the C edge and the printing program
 CRATES = ['trace', 'run_turn', 'run_turns', 'run_judge', 'run', 'host', 'run_print']
 FILES = ['crates/run_arms/src/lib.rt', 'crates/calls/src/turn_call.rt']
-# "splitting a number into bytes may keep them"
-SPLITTING = 'crates/trace/src/bytes.rt'
 # the program for tests has tables of its own to lay out, and writes no line
 TESTING = ['calls', 'calls_served']
 
@@ -77,7 +75,7 @@ def searched():
             traced = re.search(r'\btrace\b|\bLINE_BYTES\b|\bTRACE_LIMIT\b', code(source.read()))
         if crate in CRATES or (traced and crate not in TESTING):
             found.add(name)
-    return sorted(found - {SPLITTING})
+    return sorted(found)
 
 
 def main():
@@ -86,9 +84,6 @@ def main():
     for crate in CRATES:
         if not any(name.startswith('crates/%s/src/' % crate) for name in files):
             failed.append('crates/%s has no file to search' % crate)
-    with open(os.path.join(ROOT, SPLITTING), encoding='utf-8') as source:
-        if not operators(source.read()):
-            failed.append('%s does not divide: search it too' % SPLITTING)
     for name in files:
         with open(os.path.join(ROOT, name), encoding='utf-8') as source:
             text = source.read()

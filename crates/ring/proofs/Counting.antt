@@ -35,5 +35,5 @@ module _ (t : List ℕ) (m h most : ℕ) where
     pub counting_found : i ≡ h → n ≡ steps t h most (get_or t h 0)
     counting_found e = omega (arith, c.few, c.rest (most - n) (omega (arith, c.few)), steps_here t h (most - n) i e)
 
-    pub counting_out : most ≤ n → n ≡ steps t h most (get_or t h 0)
+    pub counting_out : most ≤ n → most ≡ steps t h most (get_or t h 0)
     counting_out l = omega (arith, c.few, c.rest 0 (omega (arith, c.few)), steps_zero t h i)

@@ -91,14 +91,12 @@ pub fn count(t: &[u32], m: usize, h: usize, most: usize) -> usize
     requires h_lt_m { h < m }
     ensures { result ≡ steps t.now h most (get_or t.now h 0) }
 {
-    let mut n: usize = 0;
-    let mut i = wide(t[h]);
-    while n < most {
+    let mut i = t[h] as usize;
+    for n in 0..most {
         if i == h {
             return n;
         }
-        i = wide(t[i]);
-        n += 1;
+        i = t[i] as usize;
     }
-    n
+    most
 }

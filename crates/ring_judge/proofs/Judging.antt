@@ -1,15 +1,15 @@
 -- The laws that the judge's code cites: the invariants of its loops, and what each return answers.
-use Rattle.std.specs.Prelude.{if◌then◌else◌}
 use Prim.Native.Nat.{ℕ, suc, ◌+◌, ◌-◌, ◌<◌, ◌≤◌}
-use mathlib.Core.Path.{◌≡◌, refl, sym, ap, ◌∙◌}
+use mathlib.Core.Path.{◌≡◌, sym, ap, ap₂, ◌∙◌}
 use mathlib.Core.Logic.{◌≢◌}
 use mathlib.Core.Bool.{Bool, true, false, not}
 use mathlib.Core.List.{List}
+use mir.Val.{bool_byte}
 use native.Mathlib.Omega.{arith}
 use native.Mathlib.Numerals.{add-one}
 use lib.Dec.{eqb}
 use lib.ListN.{length, get_or}
-use borrow.Author.Tests.{not-true, not-false}
+use borrow.Author.Tests.{ne_eqb}
 use Rattle.ring_laws.specs.Lists.{decide, test}
 use Rattle.ring_laws.specs.Stores.{sucs, pres, suc_at}
 use Rattle.ring_laws.specs.Judge.{Space, WalkStep, Bounded, allowed, step, walk, closed, idle, busy, rings_fine}
@@ -19,8 +19,8 @@ use Rattle.ring_laws.specs.Rows.{closed_none, closed_broken, closed_long, closed
 use Rattle.ring_laws.specs.Fine.{fine_not, fine_is}
 
 module _ (m : ℕ) (t : List ℕ) where
-  pub not_idle : (x : ℕ) → x < m → get_or t x 0 ≢ 0 → false ≡ idle (sucs m t) (pres m t) x
-  not_idle x l n = sym (idle_not (sucs m t) (pres m t) x (λ e. n (sym (suc_at m t x l) ∙ e)))
+  pub not_idle : (x : ℕ) → x < m → get_or t x 0 ≢ 0 → eqb (get_or t x 0) 0 ≡ idle (sucs m t) (pres m t) x
+  not_idle x l n = ne_eqb _ _ n ∙ sym (idle_not (sucs m t) (pres m t) x (λ e. n (sym (suc_at m t x l) ∙ e)))
 
   pub half_idle : (x : ℕ) → x < m → get_or t x 0 ≡ 0 → eqb (get_or t (m + x) 0) 0 ≡ idle (sucs m t) (pres m t) x
   half_idle x l e = sym (idle_last (sucs m t) (pres m t) x (suc_at m t x l ∙ e))
@@ -56,100 +56,100 @@ module _ (m : ℕ) (t : List ℕ) where
 
 -- ---- round one ring
 
+-- k places passed, the walk stands at a: what is left to walk is walked from there, and past all of them it has failed
 pub record Rounds (m : ℕ) (t : List ℕ) (lo hi h left a k : ℕ) : Type 0 where
   pub at : a < m
-  pub few : k ≤ left
-  pub rest : walk (sucs m t) (pres m t) lo hi h k a ≡ walk (sucs m t) (pres m t) lo hi h left h
+  pub rest : (j : ℕ) → k + j ≡ left → walk (sucs m t) (pres m t) lo hi h j a ≡ walk (sucs m t) (pres m t) lo hi h left h
+  pub over : left < k → walk (sucs m t) (pres m t) lo hi h left h ≡ 0
 
 module _ (m : ℕ) (t : List ℕ) (lo hi h left : ℕ) where
-  pub rounds_start : h < m → Rounds m t lo hi h left h left
-  rounds_start l = record { at = l; few = omega arith; rest = refl }
+  pub rounds_start : h < m → Rounds m t lo hi h left h 0
+  rounds_start l =
+      record {
+        at = l;
+        rest = λ j e. ap (λ (i : ℕ). walk (sucs m t) (pres m t) lo hi h i h) (omega (arith, e));
+        over = λ e. absurd (none e);
+      }
+    where
+      none : left < 0 → ⊥
+      none e = omega arith
 
-  module _ (a k s : ℕ) (r : Rounds m t lo hi h left a k) (st : WalkStep m (step (sucs m t) (pres m t) lo hi h a) s) where
+  pub rounds_over : (a k : ℕ) → Rounds m t lo hi h left a k → left + 1 ≤ k → Bounded (left + 1) (walk (sucs m t) (pres m t) lo hi h left h) 0
+  rounds_over a k r l = record { is = sym (r.over (omega arith)); few = omega arith }
+
+  module _ (a k s : ℕ) (r : Rounds m t lo hi h left a k) (u : k < left + 1) (st : WalkStep m (step (sucs m t) (pres m t) lo hi h a) s) where
     pub rounds_broken : s ≡ 0 → Bounded (left + 1) (walk (sucs m t) (pres m t) lo hi h left h) 0
     rounds_broken e =
-        record { is = sym (walk_broken (sucs m t) (pres m t) lo hi h k a (sym st.is ∙ e)) ∙ r.rest; few = omega arith }
-
-    pub rounds_back : s ≢ 0 → s ≡ h → Bounded (left + 1) (walk (sucs m t) (pres m t) lo hi h left h) (k + 1)
-    rounds_back n e =
         record {
-          is = add-one k ∙ sym (walk_back (sucs m t) (pres m t) lo hi h k a (λ z. n (st.is ∙ z)) (sym st.is ∙ e)) ∙ r.rest;
-          few = omega (arith, r.few);
-        }
-
-    pub rounds_short : s ≢ 0 → s ≢ h → k ≡ 0 → Bounded (left + 1) (walk (sucs m t) (pres m t) lo hi h left h) 0
-    rounds_short n o z =
-        record {
-          is =
-              sym (walk_short (sucs m t) (pres m t) lo hi h a (λ e. n (st.is ∙ e)) (λ e. o (st.is ∙ e)))
-              ∙ ap (λ (j : ℕ). walk (sucs m t) (pres m t) lo hi h j a) (sym z)
-              ∙ r.rest;
+          is = sym (walk_broken (sucs m t) (pres m t) lo hi h (left - k) a (sym st.is ∙ e)) ∙ r.rest (left - k) (omega arith);
           few = omega arith;
         }
 
-    pub rounds_turn : s ≢ 0 → s ≢ h → k ≢ 0 → Rounds m t lo hi h left s (k - 1)
-    rounds_turn n o z =
-        let e : k ≡ suc (k - 1) = omega arith in
+    pub rounds_back : s ≢ 0 → s ≡ h → Bounded (left + 1) (walk (sucs m t) (pres m t) lo hi h left h) (left - k + 1)
+    rounds_back n e =
+        record {
+          is =
+              add-one (left - k)
+              ∙ sym (walk_back (sucs m t) (pres m t) lo hi h (left - k) a (λ z. n (st.is ∙ z)) (sym st.is ∙ e))
+              ∙ r.rest (left - k) (omega arith);
+          few = omega arith;
+        }
+
+    pub rounds_turn : s ≢ 0 → s ≢ h → Rounds m t lo hi h left s (k + 1)
+    rounds_turn n o =
         record {
           at = st.at;
-          few = omega (arith, r.few);
           rest =
-              ap (walk (sucs m t) (pres m t) lo hi h (k - 1)) st.is
-              ∙ sym (walk_on (sucs m t) (pres m t) lo hi h (k - 1) a (λ e. n (st.is ∙ e)) (λ e. o (st.is ∙ e)))
-              ∙ ap (λ (j : ℕ). walk (sucs m t) (pres m t) lo hi h j a) (sym e)
-              ∙ r.rest;
+              λ j e. ap (walk (sucs m t) (pres m t) lo hi h j) st.is
+              ∙ sym (walk_on (sucs m t) (pres m t) lo hi h j a (λ z. n (st.is ∙ z)) (λ z. o (st.is ∙ z)))
+              ∙ r.rest (suc j) (omega (arith, e));
+          over =
+              λ l. sym (r.rest 0 (omega (arith, l, u)))
+              ∙ walk_short (sucs m t) (pres m t) lo hi h a (λ z. n (st.is ∙ z)) (λ z. o (st.is ∙ z));
         }
 
 -- ---- the heads one by one
 
-pub record Heads (m : ℕ) (t : List ℕ) (lo hi most n g links left h i : ℕ) : Type 0 where
-  pub within : h + i ≤ m
+pub record Heads (m : ℕ) (t : List ℕ) (lo hi most n g links left i : ℕ) : Type 0 where
   pub few : left < m
-  pub rest : closed (sucs m t) (pres m t) lo hi most i h left ≡ closed (sucs m t) (pres m t) lo hi most n g links
+  pub rest : (j : ℕ) → i + j ≡ n → closed (sucs m t) (pres m t) lo hi most j (g + i) left ≡ closed (sucs m t) (pres m t) lo hi most n g links
 
 module _ (m : ℕ) (t : List ℕ) (lo hi most n g links : ℕ) where
-  pub heads_start : g + n ≤ m → links < m → Heads m t lo hi most n g links links g n
-  heads_start l k = record { within = l; few = k; rest = refl }
+  pub heads_start : links < m → Heads m t lo hi most n g links links 0
+  heads_start k =
+      record {
+        few = k;
+        rest = λ j e. ap₂ (λ (a b : ℕ). closed (sucs m t) (pres m t) lo hi most a b links) (omega (arith, e)) (omega arith);
+      }
 
-  module _ (left h i w : ℕ) (v : Heads m t lo hi most n g links left h i) where
-    pub heads_broken : 0 < i → Bounded (left + 1) (walk (sucs m t) (pres m t) lo hi h left h) w → w ≡ 0
-        → false ≡ closed (sucs m t) (pres m t) lo hi most n g links
-    heads_broken p b z =
-        let e : suc (i - 1) ≡ i = omega arith in
-        sym (closed_broken (sucs m t) (pres m t) lo hi most (i - 1) h left (sym b.is ∙ z))
-        ∙ ap (λ (j : ℕ). closed (sucs m t) (pres m t) lo hi most j h left) e
-        ∙ v.rest
+  module _ (left i w : ℕ) (v : Heads m t lo hi most n g links left i) (u : i < n)
+      (b : Bounded (left + 1) (walk (sucs m t) (pres m t) lo hi (g + i) left (g + i)) w) where
+    pub heads_broken : w ≡ 0 → false ≡ closed (sucs m t) (pres m t) lo hi most n g links
+    heads_broken z =
+        sym (closed_broken (sucs m t) (pres m t) lo hi most (n - i - 1) (g + i) left (sym b.is ∙ z)) ∙ v.rest (suc (n - i - 1)) (omega arith)
 
-    pub heads_long : 0 < i → Bounded (left + 1) (walk (sucs m t) (pres m t) lo hi h left h) w → w ≢ 0 → most < left - (w - 1)
-        → false ≡ closed (sucs m t) (pres m t) lo hi most n g links
-    heads_long p b z l =
-        let e : suc (i - 1) ≡ i = omega arith in
+    pub heads_long : w ≢ 0 → most < left - (w - 1) → false ≡ closed (sucs m t) (pres m t) lo hi most n g links
+    heads_long z l =
         let f : w ≡ suc (w - 1) = omega arith in
-        sym (closed_long (sucs m t) (pres m t) lo hi most (i - 1) h left (w - 1) (sym b.is ∙ f) l)
-        ∙ ap (λ (j : ℕ). closed (sucs m t) (pres m t) lo hi most j h left) e
-        ∙ v.rest
+        sym (closed_long (sucs m t) (pres m t) lo hi most (n - i - 1) (g + i) left (w - 1) (sym b.is ∙ f) l)
+        ∙ v.rest (suc (n - i - 1)) (omega arith)
 
-    pub heads_turn : 0 < i → Bounded (left + 1) (walk (sucs m t) (pres m t) lo hi h left h) w → w ≢ 0 → left - (w - 1) ≤ most
-        → Heads m t lo hi most n g links (w - 1) (h + 1) (i - 1)
-    heads_turn p b z l =
-        let e : suc (i - 1) ≡ i = omega arith in
+    pub heads_turn : w ≢ 0 → left - (w - 1) ≤ most → Heads m t lo hi most n g links (w - 1) (i + 1)
+    heads_turn z l =
         let f : w ≡ suc (w - 1) = omega arith in
         record {
-          within = omega (arith, v.within);
           few = omega (arith, v.few, b.few);
           rest =
-              ap (λ (j : ℕ). closed (sucs m t) (pres m t) lo hi most (i - 1) j (w - 1)) (add-one h)
-              ∙ sym (closed_on (sucs m t) (pres m t) lo hi most (i - 1) h left (w - 1) (sym b.is ∙ f) l)
-              ∙ ap (λ (j : ℕ). closed (sucs m t) (pres m t) lo hi most j h left) e
-              ∙ v.rest;
+              λ j e. ap (λ (h : ℕ). closed (sucs m t) (pres m t) lo hi most j h (w - 1)) (next g i)
+              ∙ sym (closed_on (sucs m t) (pres m t) lo hi most j (g + i) left (w - 1) (sym b.is ∙ f) l)
+              ∙ v.rest (suc j) (omega (arith, e));
         }
+      where
+        next : (g i : ℕ) → g + (i + 1) ≡ suc (g + i)
+        next g i = omega arith
 
-    pub heads_out : i ≤ 0 → eqb left 0 ≡ closed (sucs m t) (pres m t) lo hi most n g links
-    heads_out p =
-        let e : 0 ≡ i = omega arith in
-        sym (closed_none (sucs m t) (pres m t) lo hi most h left)
-        ∙ ap (λ (j : ℕ). closed (sucs m t) (pres m t) lo hi most j h left) e
-        ∙ v.rest
+  pub heads_out : (left i : ℕ) → Heads m t lo hi most n g links left i → i ≤ n → n ≤ i → eqb left 0 ≡ closed (sucs m t) (pres m t) lo hi most n g links
+  heads_out left i v o p = sym (closed_none (sucs m t) (pres m t) lo hi most (g + i) left) ∙ v.rest 0 (omega arith)
 
 -- ---- those that are not idle
 
@@ -160,33 +160,36 @@ pub record Weighs (m : ℕ) (t : List ℕ) (lo n j : ℕ) : Type 0 where
 pub weighs_start : (m : ℕ) (t : List ℕ) (lo : ℕ) → Weighs m t lo 0 0
 weighs_start m t lo = record { is = sym (ap length (busy_none (sucs m t) (pres m t) lo)); few = omega arith }
 
-pub weighs_turn : (m : ℕ) (t : List ℕ) (lo n j w : ℕ) → Weighs m t lo n j → Bounded 1 (if idle (sucs m t) (pres m t) (lo + j) then 0 else 1) w
-    → Weighs m t lo (n + w) (j + 1)
-weighs_turn m t lo n j w v b =
-    record { is = more ∙ ap (λ (i : ℕ). length (busy (sucs m t) (pres m t) lo i)) (sym (add-one j)); few = omega (arith, v.few, b.few) }
+pub weighs_turn : (m : ℕ) (t : List ℕ) (lo n j w : ℕ) (b : Bool) → Weighs m t lo n j → b ≡ idle (sucs m t) (pres m t) (lo + j)
+    → w ≡ bool_byte (not b) → Weighs m t lo (n + w) (j + 1)
+weighs_turn m t lo n j w b v e q =
+    record {
+      is = more ∙ ap (λ (i : ℕ). length (busy (sucs m t) (pres m t) lo i)) (sym (add-one j));
+      few = omega (arith, v.few, test b (λ f. few1 (rw f at q)) (λ f. few0 (rw f at q)));
+    }
   where
+    few1 : w ≡ 0 → w ≤ 1
+    few1 z = omega arith
+
+    few0 : w ≡ 1 → w ≤ 1
+    few0 z = omega arith
+
     more : n + w ≡ length (busy (sucs m t) (pres m t) lo (suc j))
     more =
-        test (idle (sucs m t) (pres m t) (lo + j))
-        (λ e. omega (arith, v.is, rw e at b.is, ap length (busy_idle (sucs m t) (pres m t) lo j e)))
-        (λ e. omega (arith, v.is, rw e at b.is, ap length (busy_more (sucs m t) (pres m t) lo j e)))
+        test b
+        (λ f. omega (arith, v.is, rw f at q, ap length (busy_idle (sucs m t) (pres m t) lo j (sym e ∙ f))))
+        (λ f. omega (arith, v.is, rw f at q, ap length (busy_more (sucs m t) (pres m t) lo j (sym e ∙ f))))
 
 pub weighs_out : (m : ℕ) (t : List ℕ) (lo n j end : ℕ) → Weighs m t lo n j → j ≡ end → Bounded end (length (busy (sucs m t) (pres m t) lo end)) n
 weighs_out m t lo n j end v e =
     record { is = v.is ∙ ap (λ (i : ℕ). length (busy (sucs m t) (pres m t) lo i)) e; few = omega (arith, v.few) }
 
-pub weight_zero : (b zeros : Bool) → zeros ≡ b → zeros ≡ true → Bounded 1 (if b then 0 else 1) 0
-weight_zero b zeros e f = rw (← e, f) (record { is = refl; few = omega arith })
-
-pub weight_one : (b zeros : Bool) → zeros ≡ b → zeros ≡ false → Bounded 1 (if b then 0 else 1) 1
-weight_one b zeros e f = rw (← e, f) (record { is = refl; few = omega arith })
-
 -- ---- the whole
 
 module _ (S P : ℕ → ℕ) (lo hi most n g : ℕ) (zeros : Bool) (e : zeros ≡ idle S P 0) where
-  pub not_fine : not zeros ≡ true → false ≡ rings_fine S P lo hi most n g
-  not_fine f = sym (fine_not S P lo hi most n g (sym e ∙ not-true zeros f))
+  pub not_fine : zeros ≡ false → zeros ≡ rings_fine S P lo hi most n g
+  not_fine f = f ∙ sym (fine_not S P lo hi most n g (sym e ∙ f))
 
-  pub is_fine_lem : (k : ℕ) (r : Bool) → not zeros ≡ false → Bounded (hi - lo) (length (busy S P lo (hi - lo))) k
+  pub is_fine_lem : (k : ℕ) (r : Bool) → zeros ≡ true → Bounded (hi - lo) (length (busy S P lo (hi - lo))) k
       → r ≡ closed S P lo hi most n g k → r ≡ rings_fine S P lo hi most n g
-  is_fine_lem k r f b q = q ∙ ap (closed S P lo hi most n g) b.is ∙ sym (fine_is S P lo hi most n g (sym e ∙ not-false zeros f))
+  is_fine_lem k r f b q = q ∙ ap (closed S P lo hi most n g) b.is ∙ sym (fine_is S P lo hi most n g (sym e ∙ f))

@@ -6,19 +6,11 @@ ghost use Rattle.std.specs.Prelude.{◌≡◌, ◌+◌, ◌*◌, ◌-◌, ◌<�
 ghost use Rattle.ring_laws.specs.Stores.{sucs, pres};
 ghost use Rattle.ring_laws.specs.Judge.{Space, Plan, WalkStep, Bounded, allowed, step, walk, closed, idle, busy, rings_fine};
 
-use ring::wide;
-
 // May s stand on the ring of h?
 fn may_stand(lo: usize, hi: usize, h: usize, s: usize) -> bool
     ensures { result ≡ allowed lo hi h s }
 {
-    if s == h {
-        return true;
-    }
-    if s < lo {
-        return false;
-    }
-    s < hi
+    s == h || lo <= s && s < hi
 }
 
 // What follows a on the ring of h, or 0.
@@ -27,16 +19,12 @@ fn next_place(t: &[u32], m: usize, lo: usize, hi: usize, h: usize, a: usize) -> 
     requires h_lt_m { (h < m) × (a < m) }
     ensures { WalkStep m (step (sucs m t.now) (pres m t.now) lo hi h a) result }
 {
-    let s = wide(t[a]);
-    let ok = may_stand(lo, hi, h, s);
-    if !ok {
-        return 0;
+    let s = t[a] as usize;
+    if may_stand(lo, hi, h, s) && t[m + s] as usize == a {
+        s
+    } else {
+        0
     }
-    let p = wide(t[m + s]);
-    if p != a {
-        return 0;
-    }
-    s
 }
 
 // Round the ring of h, over at most `left` links: one more than what is left of them, or 0.
@@ -46,21 +34,17 @@ fn round(t: &[u32], m: usize, lo: usize, hi: usize, h: usize, left: usize) -> us
     ensures { Bounded (left + 1) (walk (sucs m t.now) (pres m t.now) lo hi h left h) result }
 {
     let mut a = h;
-    let mut k = left;
-    loop {
+    for k in 0..left + 1 {
         let s = next_place(t, m, lo, hi, h, a);
         if s == 0 {
             return 0;
         }
         if s == h {
-            return k + 1;
-        }
-        if k == 0 {
-            return 0;
+            return left - k + 1;
         }
         a = s;
-        k -= 1;
     }
+    0
 }
 
 // Are the rings of the n heads from g closed, with `links` links together, and none of them with more than `most`?
@@ -79,10 +63,8 @@ fn all_closed(
     ensures { result ≡ closed (sucs m t.now) (pres m t.now) lo hi most n g links }
 {
     let mut left = links;
-    let mut h = g;
-    let mut i = n;
-    while 0 < i {
-        let w = round(t, m, lo, hi, h, left);
+    for i in 0..n {
+        let w = round(t, m, lo, hi, g + i, left);
         if w == 0 {
             return false;
         }
@@ -91,8 +73,6 @@ fn all_closed(
             return false;
         }
         left = rest;
-        h += 1;
-        i -= 1;
     }
     left == 0
 }
@@ -102,22 +82,7 @@ pub fn is_idle(t: &[u32], m: usize, x: usize) -> bool
     requires { (length t.now ≡ 2 * m) × (x < m) }
     ensures { result ≡ idle (sucs m t.now) (pres m t.now) x }
 {
-    if t[x] != 0 {
-        return false;
-    }
-    t[m + x] == 0
-}
-
-// 1 for a link that has not two zeros.
-fn weight(t: &[u32], m: usize, x: usize) -> usize
-    requires { (length t.now ≡ 2 * m) × (x < m) }
-    ensures { Bounded 1 (if idle (sucs m t.now) (pres m t.now) x then 0 else 1) result }
-{
-    let zeros = is_idle(t, m, x);
-    if zeros {
-        return 0;
-    }
-    1
+    t[x] == 0 && t[m + x] == 0
 }
 
 // How many links have not two zeros?
@@ -126,12 +91,9 @@ fn count_busy(t: &[u32], m: usize, lo: usize, hi: usize) -> usize
     requires lo_le_hi { lo ≤ hi }
     ensures { Bounded (hi - lo) (length (busy (sucs m t.now) (pres m t.now) lo (hi - lo))) result }
 {
-    let end = hi - lo;
     let mut n: usize = 0;
-    let mut j: usize = 0;
-    while j < end {
-        n += weight(t, m, lo + j);
-        j += 1;
+    for j in 0..hi - lo {
+        n += usize::from(!is_idle(t, m, lo + j));
     }
     n
 }
@@ -149,10 +111,5 @@ pub fn rings_fine(
     requires { Plan m lo hi n g t.now }
     ensures { result ≡ rings_fine (sucs m t.now) (pres m t.now) lo hi most n g }
 {
-    let zeros = is_idle(t, m, 0);
-    if !zeros {
-        return false;
-    }
-    let k = count_busy(t, m, lo, hi);
-    all_closed(t, m, lo, hi, most, n, g, k)
+    is_idle(t, m, 0) && all_closed(t, m, lo, hi, most, n, g, count_busy(t, m, lo, hi))
 }

@@ -3,13 +3,9 @@
 // Core functions: the caller knows that what is written lies within the slice.
 #![tactic(auto)]
 
-mod bytes;
-
 ghost use Rattle.std.specs.Prelude.{◌≡◌, ◌+◌, ◌/◌, ◌≤◌, length};
 ghost use Rattle.trace.specs.Fits.{past_last};
 ghost use Rattle.trace.specs.Lines.{put, line_bytes};
-
-use crate::bytes::{put_u32, put_u64};
 
 // Bytes of a line.
 pub const LINE_BYTES: usize = 16;
@@ -24,7 +20,7 @@ pub fn past_last(len: usize) -> usize
     len - LINE_BYTES + 1
 }
 
-// How many lines fit in len bytes: bytes and lines are counted side by side.
+// How many lines fit in len bytes: bytes and lines are counted side by side, since a range by steps of 16 would divide.
 pub fn lines_in(len: usize) -> u32
     requires { len ≤ 65536 }
     ensures { result ≡ len / 16 }
@@ -44,7 +40,7 @@ pub fn put_line(s: &mut [u8], i: usize, time: u64, process: u32, rec: u32)
     requires { i + 16 ≤ length s.old }
     ensures { s.new ≡ put s.old i (line_bytes time process rec) }
 {
-    put_u64(s, i, time);
-    put_u32(s, i + 8, process);
-    put_u32(s, i + 12, rec);
+    s[i..i + 8].copy_from_slice(&time.to_le_bytes());
+    s[i + 8..i + 12].copy_from_slice(&process.to_le_bytes());
+    s[i + 12..i + 16].copy_from_slice(&rec.to_le_bytes());
 }

@@ -7,4 +7,4 @@ use Rattle.words.proofs.i64_at.Goals as goal
 
 pub returns : goal.returns
 unfolding i64_at
-returns c = to_z-of_z w64 _ (record { sfits = c.to_signed.type_inv }) ∙ c.to_signed.ensures ∙ ap (to_z w64) c.u64_at.ensures
+returns c = to_z-of_z w64 _ (record { sfits = c.cast_signed.type_inv }) ∙ c.cast_signed.ensures ∙ ap (to_z w64) c.u64_at.ensures
