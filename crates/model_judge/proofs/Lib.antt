@@ -1,3 +1,2 @@
 -- laws that the code's proofs cite
 pub mod AxisCode
-pub mod Verdicts

@@ -6,8 +6,7 @@ ghost use Rattle.sheet.specs.Sheet.{record_bytes};
 use crate::fields::record_fine;
 use crate::header::read_header;
 use model::Refusal;
-use ring::wide;
-use sheet::header::{Checked, Header};
+use sheet::header::Header;
 use sheet::records::{record_from, record_offset, start_at};
 use words::u8_at;
 
@@ -16,25 +15,19 @@ fn pad_fine(sheet: &[u8], i: usize) -> bool
     requires { i + record_bytes ≤ length sheet.now }
     ensures { result ≡ pad_fine sheet.now i }
 {
-    if u8_at(sheet, i + 6) != 0 {
-        return false;
-    }
-    u8_at(sheet, i + 7) == 0
+    u8_at(sheet, i + 6) == 0 && u8_at(sheet, i + 7) == 0
 }
 
 // Record r is laid out as it must be.
+#[tactic(auto, unfolding(sheet::specs::Accepted::layout_fine))]
 fn layout_fine(sheet: &[u8], header: Header, r: u32) -> bool
     requires sheet_len { length sheet.now ≡ length_of header }
     requires le_r { 1 ≤ r }
     requires r_le_records { r ≤ header.records }
     ensures { result ≡ layout_fine sheet.now header r }
 {
-    let processes = header.counts.processes;
-    let i = record_offset(processes, r);
-    if !pad_fine(sheet, i) {
-        return false;
-    }
-    record_fine(header, record_from(sheet, i))
+    let i = record_offset(header.counts.processes, r);
+    pad_fine(sheet, i) && record_fine(header, record_from(sheet, i))
 }
 
 // Starts are 0 to R.
@@ -42,12 +35,10 @@ fn starts_fine(sheet: &[u8], header: Header) -> bool
     requires { length sheet.now ≡ length_of header }
     ensures { result ≡ starts_to sheet.now header.records header.counts.processes }
 {
-    let mut p = wide(header.counts.processes);
-    while 0 < p {
+    for p in (1..=header.counts.processes as usize).rev() {
         if header.records < start_at(sheet, p) {
             return false;
         }
-        p -= 1;
     }
     true
 }
@@ -57,31 +48,22 @@ fn records_fine(sheet: &[u8], header: Header) -> bool
     requires { length sheet.now ≡ length_of header }
     ensures { result ≡ records_to sheet.now header header.records }
 {
-    let mut r = header.records;
-    while 0 < r {
+    for r in (1..=header.records).rev() {
         if !layout_fine(sheet, header, r) {
             return false;
         }
-        r -= 1;
     }
     true
 }
 
 // The header of a sheet that is accepted, or the refusal.
-pub fn check(sheet: &[u8]) -> Checked
+pub fn check(sheet: &[u8]) -> Result<Header, Refusal>
     ensures { result ≡ checked sheet.now }
 {
-    let read = read_header(sheet);
-    match read {
-        Checked::Refused(q) => Checked::Refused(q),
-        Checked::Accepted(header) => {
-            if !starts_fine(sheet, header) {
-                return Checked::Refused(Refusal::Layout);
-            }
-            if !records_fine(sheet, header) {
-                return Checked::Refused(Refusal::Layout);
-            }
-            Checked::Accepted(header)
-        }
+    let header = read_header(sheet)?;
+    if starts_fine(sheet, header) && records_fine(sheet, header) {
+        Ok(header)
+    } else {
+        Err(Refusal::Layout)
     }
 }

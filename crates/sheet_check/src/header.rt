@@ -4,9 +4,8 @@ ghost use Rattle.model.specs.Counts.{made_of};
 ghost use Rattle.sheet.specs.Sheet.{counts_of, header_bytes};
 ghost use Rattle.sheet.specs.Accepted.{answer, size_fine, sized, header_of};
 
-use model::{Counts, CountsMade, Refusal};
-use ring::wide;
-use sheet::header::{Checked, Header};
+use model::{Counts, Refusal};
+use sheet::header::Header;
 use sheet::records::{HEADER_BYTES, RECORD_BYTES};
 use words::u32_at;
 
@@ -14,22 +13,23 @@ use words::u32_at;
 pub const MAX_RECORDS: u32 = 2000;
 
 // The header, if it has no more records than it may have and the sheet has exactly the length that it gives.
-fn sized(sheet: &[u8], header: Header) -> Checked
+#[tactic(auto, unfolding(sheet::specs::Accepted::size_fine))]
+fn sized(sheet: &[u8], header: Header) -> Result<Header, Refusal>
     ensures { result ≡ answer (size_fine sheet.now header) header }
 {
-    if MAX_RECORDS < header.records {
-        return Checked::Refused(Refusal::Layout);
-    }
-    if sheet.len()
-        != HEADER_BYTES + 4 * wide(header.counts.processes) + RECORD_BYTES * wide(header.records)
+    let processes = header.counts.processes as usize;
+    let records = header.records as usize;
+    if header.records <= MAX_RECORDS
+        && sheet.len() == HEADER_BYTES + 4 * processes + RECORD_BYTES * records
     {
-        return Checked::Refused(Refusal::Layout);
+        Ok(header)
+    } else {
+        Err(Refusal::Layout)
     }
-    Checked::Accepted(header)
 }
 
 // The counts, if they are within their limits.
-fn counts_of(sheet: &[u8]) -> CountsMade
+fn counts_of(sheet: &[u8]) -> Result<Counts, Refusal>
     requires { header_bytes ≤ length sheet.now }
     ensures { result ≡ made_of (counts_of sheet.now) }
 {
@@ -37,16 +37,15 @@ fn counts_of(sheet: &[u8]) -> CountsMade
 }
 
 // The header of a sheet whose counts and length are in order.
-pub(crate) fn read_header(sheet: &[u8]) -> Checked
+pub(crate) fn read_header(sheet: &[u8]) -> Result<Header, Refusal>
     ensures { result ≡ answer (sized sheet.now) (header_of sheet.now) }
 {
     if sheet.len() < HEADER_BYTES {
-        return Checked::Refused(Refusal::Layout);
+        return Err(Refusal::Layout);
     }
-    let made = counts_of(sheet);
-    match made {
-        CountsMade::Refused(q) => Checked::Refused(Refusal::Layout),
-        CountsMade::Made(counts) => {
+    match counts_of(sheet) {
+        Err(_) => Err(Refusal::Layout),
+        Ok(counts) => {
             let records = u32_at(sheet, 12);
             sized(sheet, Header { counts, records })
         }

@@ -105,8 +105,7 @@ fn row_of(operation: u8) -> Uses
     requires operation_le_last_operation { operation ≤ last_operation }
     ensures { result ≡ row_of operation }
 {
-    let i = (operation - 1) as usize;
-    OPERATIONS[i]
+    OPERATIONS[operation as usize - 1]
 }
 
 // The fields that a record of this operation and clause uses.
@@ -119,20 +118,19 @@ pub(crate) fn uses_of(operation: u8, clause: u8) -> Uses
     if !row.clause {
         return row;
     }
-    let x = row.x;
     if 4 < clause {
-        let y = row.y;
-        return Uses {
+        Uses {
             clause: true,
-            x,
-            y,
+            x: row.x,
+            y: row.y,
             t: false,
-        };
-    }
-    Uses {
-        clause: true,
-        x,
-        y: Holds::Nothing,
-        t: 0 < clause,
+        }
+    } else {
+        Uses {
+            clause: true,
+            x: row.x,
+            y: Holds::Nothing,
+            t: 0 < clause,
+        }
     }
 }

@@ -3,14 +3,14 @@ use Rattle.model_laws.proofs.Verdict.{verdict_sized}
 use Rattle.std.proofs.Common.{ap, not}
 use Rattle.model_fresh.proofs.fresh.Goals as goal
 
-pub returns-then-not-counts : goal.returns-then-not-counts
-returns-then-not-counts c = fresh_limits _ _ _ c.within_limits-counts.ensures (ap not c.if-not-counts.true)
+pub returns-then-not-within_limits : goal.returns-then-not-within_limits
+returns-then-not-within_limits c = fresh_limits _ _ _ c.within_limits.ensures (ap not c.if-not-within_limits.true)
 
-pub returns-then-not-sized : goal.returns-then-not-sized
-returns-then-not-sized c = fresh_lengths _ _ _ c.within_limits-counts.ensures (ap not c.if-not-counts.false) _ c.lengths_fine-sized.ensures (ap not c.if-not-sized.true)
+pub returns-then-not-lengths_fine : goal.returns-then-not-lengths_fine
+returns-then-not-lengths_fine c = fresh_lengths _ _ _ c.within_limits.ensures (ap not c.if-not-within_limits.false) _ c.lengths_fine.ensures (ap not c.if-not-lengths_fine.true)
 
 pub fill-requires : goal.fill-requires
-fill-requires c = verdict_sized _ _ _ c.within_limits-counts.ensures (ap not c.if-not-counts.false) _ c.lengths_fine-sized.ensures (ap not c.if-not-sized.false)
+fill-requires c = verdict_sized _ _ _ c.within_limits.ensures (ap not c.if-not-within_limits.false) _ c.lengths_fine.ensures (ap not c.if-not-lengths_fine.false)
 
 pub returns : goal.returns
-returns c = fresh_filled _ _ _ c.within_limits-counts.ensures (ap not c.if-not-counts.false) _ c.lengths_fine-sized.ensures _ (ap not c.if-not-sized.false) c.fill.ensures
+returns c = fresh_filled _ _ _ c.within_limits.ensures (ap not c.if-not-within_limits.false) _ c.lengths_fine.ensures _ (ap not c.if-not-lengths_fine.false) c.fill.ensures

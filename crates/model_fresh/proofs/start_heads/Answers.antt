@@ -1,15 +1,14 @@
-use Rattle.model_fresh.proofs.Filling.{started_start, started_turn, started_length, started_out}
-use native.Mathlib.Omega.{arith}
+use mathlib.Core.Path.{refl, ap, ◌∙◌}
+use native.Mathlib.Numerals.{add-one}
+use Prim.Native.Nat.{◌+◌}
+use Rattle.ring_laws.specs.Table.{self_linked}
+use Rattle.model_laws.specs.Fresh.{fresh_heads}
 use Rattle.model_fresh.proofs.start_heads.Goals as goal
 
 pub loop-h-init : goal.loop-h-init
-loop-h-init c = started_start _ _ _
-
-pub start_ring-requires : goal.start_ring-requires
-start_ring-requires c = (started_length _ _ _ _ _ c.loop-h.invariant c.requires.0 c.requires.1, omega arith)
+unfolding fresh_heads
+loop-h-init c = refl
 
 pub loop-h-preserved : goal.loop-h-preserved
-loop-h-preserved c = started_turn _ _ _ _ _ _ c.loop-h.invariant c.loop-h-test.true c.start_ring.ensures
-
-pub returns : goal.returns
-returns c = started_out _ _ _ _ _ c.loop-h.invariant c.loop-h-test.false
+unfolding fresh_heads
+loop-h-preserved c = c.start_ring.ensures ∙ ap (self_linked c.args.m (c.loop-h.h + 1)) c.loop-h.invariant ∙ rw (add-one c.loop-h.h)

@@ -1,9 +1,6 @@
-use Prim.Native.Nat.{◌-◌}
-use Rattle.model_fresh.proofs.Filling.{Started}
+use mathlib.Core.Path.{◌≡◌}
+use Rattle.model_laws.specs.Fresh.{fresh_heads}
 use Rattle.model_fresh.proofs.start_heads.Given as goal
 
 abbrev pub invariant-loop-h : goal.invariant-loop-h
-invariant-loop-h l = Started l.m l.initial.t l.t l.heads l.h
-
-abbrev pub decreases-loop-h : goal.decreases-loop-h
-decreases-loop-h l = l.heads - l.h
+invariant-loop-h l = l.t ≡ fresh_heads l.m l.h l.initial.t

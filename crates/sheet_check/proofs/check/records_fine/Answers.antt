@@ -1,3 +1,4 @@
+use native.Mathlib.Omega.{arith}
 use mathlib.Core.Path.{refl}
 use Rattle.sheet.specs.AllTo.{left_start, left_turn, left_break, left_out}
 use Rattle.sheet.specs.Tests.{shown, refuted}
@@ -14,4 +15,4 @@ pub loop-r-preserved : goal.loop-r-preserved
 loop-r-preserved c = left_turn _ _ _ c.loop-r.invariant c.loop-r-test.true (shown _ _ c.layout_fine.ensures (ap not c.if-not-layout_fine.false))
 
 pub returns : goal.returns
-returns c = left_out _ _ _ c.loop-r.invariant c.loop-r-test.false
+returns c = left_out _ _ _ c.loop-r.invariant (omega (arith, c.loop-r-test.false))

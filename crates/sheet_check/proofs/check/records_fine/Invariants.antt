@@ -4,6 +4,3 @@ use Rattle.sheet_check.proofs.check.records_fine.Given as goal
 
 abbrev pub invariant-loop-r : goal.invariant-loop-r
 invariant-loop-r l = Remaining (layout_fine l.sheet l.header) l.header.records l.r
-
-abbrev pub decreases-loop-r : goal.decreases-loop-r
-decreases-loop-r l = l.r

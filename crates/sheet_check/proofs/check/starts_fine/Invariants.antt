@@ -5,6 +5,3 @@ use Rattle.sheet_check.proofs.check.starts_fine.Given as goal
 
 abbrev pub invariant-loop-p : goal.invariant-loop-p
 invariant-loop-p l = Remaining (λ k. leb (start_at l.sheet k) l.header.records) l.header.counts.processes l.p
-
-abbrev pub decreases-loop-p : goal.decreases-loop-p
-decreases-loop-p l = l.p
