@@ -5,14 +5,12 @@ ghost use Rattle.model_laws.specs.Tables.{model_of};
 ghost use Rattle.accum_laws.specs.Calls.{accum_one, accum_alone, accum_listed};
 
 use accum_judge::{judge_list, list_fine, number_fine, time_of};
-use accum_laws::{Accumulator, Kept, Updated};
+use accum_laws::{Accumulator, Kept};
 use accum_update::flat::update_in;
 use accum_update::update::updated;
-use model::Counts;
 use model::answer::Answer;
-use model::verdict::Verdict;
+use model::{Counts, Refusal};
 use model_judge::judge_tables;
-use ring::wide;
 
 // Accum at a time: the new accumulator, or refusal 7 and the old one.
 pub(crate) fn accum_at_time(x: Accumulator, time: u64, d: i64) -> Kept
@@ -20,13 +18,13 @@ pub(crate) fn accum_at_time(x: Accumulator, time: u64, d: i64) -> Kept
     ensures { result ≡ accum_one x time d }
 {
     match updated(x, time, d) {
-        Updated::To(value) => Kept {
+        Ok(value) => Kept {
             value,
-            answer: Answer::Done,
+            answer: Ok(Answer::Done),
         },
-        Updated::Refused(q) => Kept {
+        Err(q) => Kept {
             value: x,
-            answer: Answer::Refused(q),
+            answer: Err(q),
         },
     }
 }
@@ -43,13 +41,12 @@ pub fn accum_alone(
 ) -> Kept
     ensures { result ≡ accum_alone c (model_of links.now axis.now times.now marks.now) x d }
 {
-    let v = judge_tables(c, links, axis, times, marks);
-    match v {
-        Verdict::Refused(r) => Kept {
+    match judge_tables(c, links, axis, times, marks) {
+        Err(refusal) => Kept {
             value: x,
-            answer: Answer::Refused(r),
+            answer: Err(refusal),
         },
-        Verdict::Fine => {
+        Ok(()) => {
             let t = time_of(c, links, axis, times, marks);
             accum_at_time(x, t, d)
         }
@@ -67,19 +64,14 @@ pub fn accum_listed(
     words: &mut [i64],
     k: u32,
     d: i64,
-) -> Answer
+) -> Result<Answer, Refusal>
     ensures { record { words = words.exit.now; answer = result }
         ≡ accum_listed c (model_of links.now axis.now times.now marks.now) count k d
         words.entry.now }
 {
     let list = list_fine(count, words.len());
-    let number = number_fine(wide(count), k);
-    let v = judge_list(c, links, axis, times, marks, list, number);
-    match v {
-        Verdict::Refused(r) => Answer::Refused(r),
-        Verdict::Fine => {
-            let t = time_of(c, links, axis, times, marks);
-            update_in(words, k, t, d)
-        }
-    }
+    let number = number_fine(count as usize, k);
+    judge_list(c, links, axis, times, marks, list, number)?;
+    let t = time_of(c, links, axis, times, marks);
+    update_in(words, k, t, d)
 }

@@ -9,7 +9,6 @@ use accum_laws::{Accumulator, Kept};
 use accum_update::gather::{gather, spread};
 use model::answer::Answer;
 use model::{Counts, Refusal};
-use ring::wide;
 
 // Accum on one accumulator by d, lent to the call.
 pub fn accum_alone_lent(
@@ -32,7 +31,7 @@ pub fn accum_alone_lent(
 #[derive(Clone, Copy)]
 struct Relisted {
     list: [Accumulator; 64],
-    answer: Answer,
+    answer: Result<Answer, Refusal>,
 }
 
 // Accum by d on number k of the first n of 64 accumulators, lent to the call.
@@ -71,16 +70,15 @@ pub fn accum_listed_lent(
     words: &mut [i64],
     k: u32,
     d: i64,
-) -> Answer
+) -> Result<Answer, Refusal>
     ensures { record { words = words.exit.now; answer = result }
         ≡ accum_listed c (model_of links.now axis.now times.now marks.now) count k d
         words.entry.now }
 {
-    let ok = list_fine(count, words.len());
-    if !ok {
-        return Answer::Refused(Refusal::Size);
+    if !list_fine(count, words.len()) {
+        return Err(Refusal::Size);
     }
-    let n = wide(count);
+    let n = count as usize;
     let list = gather(words, n);
     let r = accum_at_first(c, links, axis, times, marks, list, n, k, d);
     let after = r.list;

@@ -6,8 +6,8 @@ ghost use Rattle.model_laws.specs.Tables.{model_of};
 use crate::calls::{accum_alone, accum_at_time};
 use accum_judge::pick;
 use accum_laws::Accumulator;
-use model::Counts;
 use model::answer::Answer;
+use model::{Counts, Refusal};
 
 // Accum by d on an accumulator that is lent to the call.
 pub fn accum_one(
@@ -18,7 +18,7 @@ pub fn accum_one(
     marks: &[u8],
     x: &mut Accumulator,
     d: i64,
-) -> Answer
+) -> Result<Answer, Refusal>
     ensures { record { value = x.new; answer = result }
         ≡ accum_alone c (model_of links.now axis.now times.now marks.now) x.old d }
 {
@@ -37,14 +37,11 @@ pub fn accum_at(
     xs: &mut [Accumulator],
     k: u32,
     d: i64,
-) -> Answer
+) -> Result<Answer, Refusal>
     ensures { record { list = xs.new; answer = result }
         ≡ accum_at c (model_of links.now axis.now times.now marks.now) k d xs.old }
 {
-    let p = pick(c, links, axis, times, marks, xs.len(), k);
-    if p.refused {
-        return p.answer;
-    }
+    let p = pick(c, links, axis, times, marks, xs.len(), k)?;
     let r = accum_at_time(xs[p.at], p.time, d);
     xs[p.at] = r.value;
     r.answer

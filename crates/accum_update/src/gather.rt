@@ -12,11 +12,8 @@ pub fn gather(words: &[i64], n: usize) -> [Accumulator; 64]
 {
     let zero = Accumulator { a: 0, b: 0, c: 0 };
     let mut list = [zero; 64];
-    let mut i = 0;
-    while i < n {
-        let v = taken(words, 3 * i);
-        list[i] = v;
-        i += 1;
+    for i in 0..n {
+        list[i] = taken(words, 3 * i);
     }
     list
 }
@@ -26,10 +23,7 @@ pub fn spread(list: [Accumulator; 64], n: usize, words: &mut [i64])
     requires { (n ≤ 64) × (length words.old ≡ 3 * n) }
     ensures { words.new ≡ flat (take n list) }
 {
-    let mut i = 0;
-    while i < n {
-        let v = list[i];
-        put(words, 3 * i, v);
-        i += 1;
+    for i in 0..n {
+        put(words, 3 * i, list[i]);
     }
 }

@@ -4,5 +4,4 @@
 
 pub mod flat;
 pub mod gather;
-pub mod signed;
 pub mod update;

@@ -3,8 +3,7 @@ ghost use Rattle.std.specs.Prelude.{◌≡◌, ◌≤◌, pos, ◌+ℤ◌, ◌-�
 ghost use Rattle.model.specs.Counts.{limit};
 ghost use Rattle.accum_laws.specs.Update.{may_update, updated_of, Growable};
 
-use crate::signed::{below_zero, magnitude, minus, plus, product, signed_of};
-use accum_laws::{Accumulator, Updated};
+use accum_laws::Accumulator;
 use model::Refusal;
 
 // The greatest absolute value of c.
@@ -15,26 +14,13 @@ fn may_update(x: Accumulator, time: u64, d: i64) -> bool
     requires { time ≤ limit }
     ensures { result ≡ may_update x time d }
 {
-    let a = x.a;
-    let b = x.b;
-    let c = x.c;
-    if below_zero(b) {
-        return false;
-    }
-    let since = magnitude(b);
-    if time < since {
-        return false;
-    }
-    if RATE_LIMIT * since < magnitude(a) {
-        return false;
-    }
-    if RATE_LIMIT < magnitude(c) {
-        return false;
-    }
-    if 2 * RATE_LIMIT < magnitude(d) {
-        return false;
-    }
-    magnitude(plus(c, d)) <= RATE_LIMIT
+    let since = x.b.unsigned_abs();
+    x.b >= 0
+        && since <= time
+        && x.a.unsigned_abs() <= RATE_LIMIT * since
+        && x.c.unsigned_abs() <= RATE_LIMIT
+        && d.unsigned_abs() <= 2 * RATE_LIMIT
+        && (x.c + d).unsigned_abs() <= RATE_LIMIT
 }
 
 // What has been gathered at this time.
@@ -42,20 +28,20 @@ fn gathered(a: i64, b: i64, c: i64, time: u64) -> i64
     requires { Growable a b c time }
     ensures { result ≡ a +ℤ c *ℤ (pos time -ℤ b) }
 {
-    plus(a, product(c, minus(signed_of(time), b)))
+    a + c * (time as i64 - b)
 }
 
 // The accumulator after a growth of c by d at this time, or refusal 7.
-pub fn updated(x: Accumulator, time: u64, d: i64) -> Updated
+pub fn updated(x: Accumulator, time: u64, d: i64) -> Result<Accumulator, Refusal>
     requires { time ≤ limit }
     ensures { result ≡ updated_of x time d }
 {
     if may_update(x, time, d) {
         let a = gathered(x.a, x.b, x.c, time);
-        let b = signed_of(time);
-        let c = plus(x.c, d);
-        Updated::To(Accumulator { a, b, c })
+        let b = time as i64;
+        let c = x.c + d;
+        Ok(Accumulator { a, b, c })
     } else {
-        Updated::Refused(Refusal::Accumulator)
+        Err(Refusal::Accumulator)
     }
 }

@@ -7,15 +7,15 @@ use Rattle.accum_laws.specs.Promise.{alone_turned, alone_fine, time_in}
 use Rattle.accum.proofs.calls.accum_alone.Goals as goal
 
 pub time_of-t-requires : goal.time_of-t-requires
-time_of-t-requires c = judged_ready _ _ (sym c.judge_tables-v.ensures ∙ c.in-Fine.is)
+time_of-t-requires c = judged_ready _ _ (sym c.judge_tables.ensures ∙ c.in-Ok.is)
 
 pub accum_at_time-requires : goal.accum_at_time-requires
-accum_at_time-requires c = time_in _ _ _ (sym c.judge_tables-v.ensures ∙ c.in-Fine.is) c.time_of-t.ensures
+accum_at_time-requires c = time_in _ _ _ (sym c.judge_tables.ensures ∙ c.in-Ok.is) c.time_of-t.ensures
 
-pub returns-in-Refused : goal.returns-in-Refused
-returns-in-Refused c = alone_turned _ _ _ _ _ c.judge_tables-v.ensures _ c.in-Refused.is
+pub returns-in-Err : goal.returns-in-Err
+returns-in-Err c = alone_turned _ _ _ _ _ c.judge_tables.ensures _ c.in-Err.is
 
-pub returns-in-Fine : goal.returns-in-Fine
-returns-in-Fine c =
-    alone_fine _ _ _ _ _ c.judge_tables-v.ensures _ _ c.in-Fine.is c.time_of-t.ensures
+pub returns-in-Ok : goal.returns-in-Ok
+returns-in-Ok c =
+    alone_fine _ _ _ _ _ c.judge_tables.ensures _ _ c.in-Ok.is c.time_of-t.ensures
     (c.accum_at_time.ensures ∙ ap (λ (z : ℤ). accum_one c.args.x c.time_of-t.result z) (kept c.ranges.d))

@@ -1,7 +1,8 @@
-use Rattle.std.proofs.Common.{rules, ◌≡◌, ◌+ℤ◌, ◌-ℤ◌, ◌*ℤ◌, ◌∙◌, ap, refl, sym, ℤ, pos, SFits, w64, true, false}
-use Rattle.accum_laws.specs.Signed.{word, kept, asks2, gives2, ap2}
+use Rattle.std.proofs.Common.{arith, rules, ◌≡◌, ◌+ℤ◌, ◌-ℤ◌, ◌*ℤ◌, ◌∙◌, ap, refl, sym, ℤ, pos, SFits, w64, true, false}
+use Rattle.accum_laws.specs.Signed.{word, kept, asks2, ap2}
 use Rattle.accum_laws.specs.Update.{may_update, updated_not}
 use Rattle.accum_laws.proofs.Keeps.{stored_growable, rate_fits, stored_to}
+use mir.ValLaws.{to_z_pos}
 use Rattle.accum_update.proofs.update.updated.Goals as goal
 
 pub gathered-a-requires : goal.gathered-a-requires
@@ -14,8 +15,8 @@ gathered-a-requires c =
     in
     stored_growable _ _ _ may c.requires a b r
 
-pub plus-c-requires : goal.plus-c-requires
-plus-c-requires c =
+pub overflow_add-c : goal.overflow_add-c
+overflow_add-c c =
     let r : SFits w64 c.args.x.c = search rules in
     let may : may_update c.args.x c.args.time c.args.d ≡ true =
     sym (c.may_update.ensures ∙ ap (λ (z : ℤ). may_update c.args.x c.args.time z) (kept c.ranges.d)) ∙ c.if-may_update.true
@@ -33,8 +34,8 @@ returns-then-may_update c =
     stored_to _ _ _ may _ _ _
     (kept (word c.gathered-a.type_inv) ∙ c.gathered-a.ensures
     ∙ ap2 ◌+ℤ◌ (kept a) (ap2 ◌*ℤ◌ (kept r) (ap (λ (z : ℤ). pos c.args.time -ℤ z) (kept b))))
-    (kept (word c.signed_of-b.type_inv) ∙ c.signed_of-b.ensures)
-    (kept (word c.plus-c.type_inv) ∙ gives2 ◌+ℤ◌ c.plus-c.ensures r refl c.ranges.d refl)
+    (to_z_pos w64 c.args.time (omega arith))
+    (kept (asks2 ◌+ℤ◌ r refl c.ranges.d refl (rate_fits _ _ _ may)) ∙ ap2 ◌+ℤ◌ (kept r) (kept c.ranges.d))
 
 pub returns-else-may_update : goal.returns-else-may_update
 returns-else-may_update c =

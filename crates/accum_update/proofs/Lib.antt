@@ -1,0 +1,2 @@
+-- laws that belong to no one function
+pub mod May
