@@ -113,8 +113,7 @@ pub fn no_room(c: Counts, links: &[u32], x: u32, y: u32, bounds: &mut [u32]) -> 
     ensures { Tested c (set_at (total c + 1) c.heads y links.now) links.now
         (full_for c x y links.now) bounds.new result }
 {
-    let crowd = are_many(c);
-    if !crowd {
+    if !are_many(c) {
         return false;
     }
     let h = set_of(c, links, y);

@@ -13,7 +13,6 @@ ghost use Rattle.simset_laws.specs.KnownRoom.{Roomy};
 use crate::procedures;
 use crate::room::{FREE_LINKAGES, no_room};
 use model::answer::Answer;
-use model::verdict::Verdict;
 use model::{Counts, Refusal};
 use ring::{unlink, wide};
 
@@ -34,21 +33,20 @@ pub fn head_or_none(c: Counts, y: u32) -> bool
     y <= c.heads
 }
 
-pub fn out(c: Counts, links: &mut [u32], x: u32) -> Answer
+pub fn out(c: Counts, links: &mut [u32], x: u32) -> Result<Answer, Refusal>
     requires { Sound (total c + 1) links.old }
     ensures { Moved (total c + 1) (out_step c x links.entry.now) (record { links = links.exit.now; answer = result }) }
 {
-    let ok = c.is_link(x);
-    if !ok {
-        return Answer::Refused(Refusal::Operand);
+    if !c.is_link(x) {
+        return Err(Refusal::Operand);
     }
     let n = c.total();
     unlink(links, n + 1, wide(x));
-    Answer::Done
+    Ok(Answer::Done)
 }
 
 // May x, a link, be put beside y? Where there are not many links, this asks no more than whether y is a linkage or none.
-fn beside(c: Counts, links: &[u32], x: u32, y: u32, bounds: &mut [u32]) -> Verdict
+fn beside(c: Counts, links: &[u32], x: u32, y: u32, bounds: &mut [u32]) -> Result<(), Refusal>
     requires sound { Sound (total c + 1) links.now }
     requires x_bound { x < total c + 1 }
     requires covers { Covers c 0 links.now bounds.old }
@@ -56,104 +54,115 @@ fn beside(c: Counts, links: &[u32], x: u32, y: u32, bounds: &mut [u32]) -> Verdi
         (full_for c x y links.now) bounds.new result }
 {
     if y <= bounds[FREE_LINKAGES] {
-        return Verdict::Fine;
+        return Ok(());
     }
-    let linkage = linkage_or_none(c, y);
-    if !linkage {
-        return Verdict::Refused(Refusal::Operand);
+    if !linkage_or_none(c, y) {
+        return Err(Refusal::Operand);
     }
     if no_room(c, links, x, y, bounds) {
-        return Verdict::Refused(Refusal::Full);
+        return Err(Refusal::Full);
     }
-    Verdict::Fine
+    Ok(())
 }
 
-pub fn follow(c: Counts, links: &mut [u32], x: u32, y: u32, bounds: &mut [u32]) -> Answer
+pub fn follow(
+    c: Counts,
+    links: &mut [u32],
+    x: u32,
+    y: u32,
+    bounds: &mut [u32],
+) -> Result<Answer, Refusal>
     requires sound { Sound (total c + 1) links.old }
     requires covers { Covers c 0 links.old bounds.old }
     ensures { Entered c links.entry.now (follow_step c x y links.entry.now) bounds.new
         (record { links = links.exit.now; answer = result }) }
 {
-    let a = c.is_link(x);
-    if !a {
-        return Answer::Refused(Refusal::Operand);
+    if !c.is_link(x) {
+        return Err(Refusal::Operand);
     }
     match beside(c, links, x, y, bounds) {
-        Verdict::Refused(q) => Answer::Refused(q),
-        Verdict::Fine => {
+        Err(q) => Err(q),
+        Ok(()) => {
             let n = c.total();
             procedures::follow(links, n + 1, x, y);
-            Answer::Done
+            Ok(Answer::Done)
         }
     }
 }
 
-pub fn precede(c: Counts, links: &mut [u32], x: u32, y: u32, bounds: &mut [u32]) -> Answer
+pub fn precede(
+    c: Counts,
+    links: &mut [u32],
+    x: u32,
+    y: u32,
+    bounds: &mut [u32],
+) -> Result<Answer, Refusal>
     requires sound { Sound (total c + 1) links.old }
     requires covers { Covers c 0 links.old bounds.old }
     ensures { Entered c links.entry.now (precede_step c x y links.entry.now) bounds.new
         (record { links = links.exit.now; answer = result }) }
 {
-    let a = c.is_link(x);
-    if !a {
-        return Answer::Refused(Refusal::Operand);
+    if !c.is_link(x) {
+        return Err(Refusal::Operand);
     }
     match beside(c, links, x, y, bounds) {
-        Verdict::Refused(q) => Answer::Refused(q),
-        Verdict::Fine => {
+        Err(q) => Err(q),
+        Ok(()) => {
             let n = c.total();
             procedures::precede(links, n + 1, x, y);
-            Answer::Done
+            Ok(Answer::Done)
         }
     }
 }
 
-pub fn into(c: Counts, links: &mut [u32], x: u32, y: u32, bounds: &mut [u32]) -> Answer
+pub fn into(
+    c: Counts,
+    links: &mut [u32],
+    x: u32,
+    y: u32,
+    bounds: &mut [u32],
+) -> Result<Answer, Refusal>
     requires sound { Sound (total c + 1) links.old }
     requires covers { Covers c 0 links.old bounds.old }
     ensures { Entered c links.entry.now (into_step c x y links.entry.now) bounds.new
         (record { links = links.exit.now; answer = result }) }
 {
-    let a = c.is_link(x);
-    if !a {
-        return Answer::Refused(Refusal::Operand);
+    if !c.is_link(x) {
+        return Err(Refusal::Operand);
     }
-    let b = head_or_none(c, y);
-    if !b {
-        return Answer::Refused(Refusal::Operand);
+    if !head_or_none(c, y) {
+        return Err(Refusal::Operand);
     }
     if no_room(c, links, x, y, bounds) {
-        return Answer::Refused(Refusal::Full);
+        return Err(Refusal::Full);
     }
     let n = c.total();
     procedures::precede(links, n + 1, x, y);
-    Answer::Done
+    Ok(Answer::Done)
 }
 
 // Into, where y is a head whose set has room, or none.
-pub fn into_known(c: Counts, links: &mut [u32], x: u32, y: u32) -> Answer
+pub fn into_known(c: Counts, links: &mut [u32], x: u32, y: u32) -> Result<Answer, Refusal>
     requires sound { Sound (total c + 1) links.old }
     requires roomy { Roomy c links.old x y }
     ensures { Moved (total c + 1) (into_step c x y links.entry.now) (record { links = links.exit.now; answer = result }) }
 {
-    let link = c.is_link(x);
-    if !link {
-        return Answer::Refused(Refusal::Operand);
+    if !c.is_link(x) {
+        return Err(Refusal::Operand);
     }
     let n = c.total();
     procedures::precede(links, n + 1, x, y);
-    Answer::Done
+    Ok(Answer::Done)
 }
 
-pub fn clear(c: Counts, links: &mut [u32], x: u32) -> Answer
+pub fn clear(c: Counts, links: &mut [u32], x: u32) -> Result<Answer, Refusal>
     requires { Sound (total c + 1) links.old }
     ensures { Moved (total c + 1) (clear_step c x links.entry.now) (record { links = links.exit.now; answer = result }) }
 {
-    let ok = c.is_head(x);
-    if !ok {
-        return Answer::Refused(Refusal::Operand);
+    if !c.is_head(x) {
+        return Err(Refusal::Operand);
     }
     let n = c.total();
     procedures::clear(links, n + 1, wide(x));
-    Answer::Done
+    Ok(Answer::Done)
 }

@@ -11,13 +11,13 @@ ghost use Rattle.simulation_laws.specs.Promise.{sqs, Judged, Takeable};
 ghost use Rattle.simulation_laws.specs.StepPromise.{WaitMade};
 ghost use Rattle.simulation_laws.specs.PublicCalls.{sequencing_after, query_told};
 
-use model::Counts;
 use model::answer::Answer;
 use model::call::{Query, SequencingCall, SetCall};
+use model::{Counts, Refusal};
 use simset::room::unknown_bounds;
 use simula_queries::{on_axis, on_links};
 
-pub(crate) fn set_step(c: Counts, links: &mut [u32], call: SetCall) -> Answer
+pub(crate) fn set_step(c: Counts, links: &mut [u32], call: SetCall) -> Result<Answer, Refusal>
     requires sound { Sound (total c + 1) links.old }
     requires allowed { Allowed c }
     ensures { Moved (total c + 1) (links_after c call links.entry.now) (record { links = links.exit.now; answer = result }) }
@@ -32,7 +32,13 @@ pub(crate) fn set_step(c: Counts, links: &mut [u32], call: SetCall) -> Answer
     }
 }
 
-fn wait(c: Counts, links: &mut [u32], axis: &mut [u32], times: &mut [u64], y: u32) -> Answer
+fn wait(
+    c: Counts,
+    links: &mut [u32],
+    axis: &mut [u32],
+    times: &mut [u64],
+    y: u32,
+) -> Result<Answer, Refusal>
     requires takeable { Takeable c axis.old times.old }
     requires sound { Sound (total c + 1) links.old }
     ensures { WaitMade c (wait_step c y links.old (sqs axis.old times.old)) links.new
@@ -49,7 +55,7 @@ pub(crate) fn sequencing_step(
     times: &mut [u64],
     marks: &mut [u8],
     call: SequencingCall,
-) -> Answer
+) -> Result<Answer, Refusal>
     requires takeable { Takeable c axis.old times.old }
     requires sound { Sound (total c + 1) links.old }
     ensures { record { tables = model_of links.new axis.new times.new marks.new; answer = result }
@@ -78,7 +84,7 @@ pub(crate) fn tell(
     times: &[u64],
     marks: &[u8],
     query: Query,
-) -> Answer
+) -> Result<Answer, Refusal>
     requires judged { Judged c axis.now }
     requires sound { Sound (total c + 1) links.now }
     ensures { result ≡ query_told c query (model_of links.now axis.now times.now marks.now) }

@@ -13,10 +13,9 @@ ghost use Rattle.simulation_laws.specs.PublicCalls.{sequencing_answered, query_t
 
 use crate::by_case::tell;
 use crate::told::{sequencing_answer, set_answer};
-use model::Counts;
 use model::answer::Answer;
 use model::call::{Query, SequencingCall, SetCall};
-use model::verdict::Verdict;
+use model::{Counts, Refusal};
 use model_judge::judge_tables;
 
 // Out, follow, precede and into answer the head of the set that x left, or none; clear answers how many it removed.
@@ -27,7 +26,7 @@ pub fn set_call(
     times: &[u64],
     marks: &[u8],
     call: SetCall,
-) -> Answer
+) -> Result<Answer, Refusal>
     ensures { record {
       tables = model_of links.new axis.now times.now marks.now;
       answer = result;
@@ -35,11 +34,8 @@ pub fn set_call(
         ≡ called c (set_answered c call) (model_of links.old axis.now times.now
         marks.now) }
 {
-    let v = judge_tables(c, links, axis, times, marks);
-    match v {
-        Verdict::Refused(r) => Answer::Refused(r),
-        Verdict::Fine => set_answer(c, links, call),
-    }
+    judge_tables(c, links, axis, times, marks)?;
+    set_answer(c, links, call)
 }
 
 // Hold, passivate, wait, cancel, activate, reactivate and finish. Wait answers the head of the set that current left, or none.
@@ -50,16 +46,13 @@ pub fn sequencing_call(
     times: &mut [u64],
     marks: &mut [u8],
     call: SequencingCall,
-) -> Answer
+) -> Result<Answer, Refusal>
     ensures { record { tables = model_of links.new axis.new times.new marks.new; answer = result }
         ≡ called c (sequencing_answered c call) (model_of links.old axis.old times.old
         marks.old) }
 {
-    let v = judge_tables(c, links, axis, times, marks);
-    match v {
-        Verdict::Refused(r) => Answer::Refused(r),
-        Verdict::Fine => sequencing_answer(c, links, axis, times, marks, call),
-    }
+    judge_tables(c, links, axis, times, marks)?;
+    sequencing_answer(c, links, axis, times, marks, call)
 }
 
 // What first, last, suc, pred, empty and cardinal tell of the sets, and current, time, idle, terminated, evtime and nextev of the axis.
@@ -70,13 +63,10 @@ pub fn query(
     times: &[u64],
     marks: &[u8],
     query: Query,
-) -> Answer
+) -> Result<Answer, Refusal>
     ensures { result ≡ asked c (query_told c query) (model_of links.now axis.now times.now
         marks.now) }
 {
-    let v = judge_tables(c, links, axis, times, marks);
-    match v {
-        Verdict::Refused(r) => Answer::Refused(r),
-        Verdict::Fine => tell(c, links, axis, times, marks, query),
-    }
+    judge_tables(c, links, axis, times, marks)?;
+    tell(c, links, axis, times, marks, query)
 }

@@ -7,92 +7,85 @@ ghost use Rattle.simset_laws.specs.Told.{head_told};
 
 use model::answer::Answer;
 use model::{Counts, Refusal};
-use ring::{count, wide};
+use ring::count;
 use simset::heads::head_at;
 use simset::procedures::link_or;
 
-pub fn first(c: Counts, links: &[u32], x: u32) -> Answer
+pub fn first(c: Counts, links: &[u32], x: u32) -> Result<Answer, Refusal>
     requires { Sound (total c + 1) links.now }
     ensures { result ≡ first_told c x links.now }
 {
-    let ok = c.is_head(x);
-    if !ok {
-        return Answer::Refused(Refusal::Operand);
+    if !c.is_head(x) {
+        return Err(Refusal::Operand);
     }
-    let i = wide(x);
-    Answer::Linkage(link_or(c.heads, links[i]))
+    let i = x as usize;
+    Ok(Answer::Linkage(link_or(c.heads, links[i])))
 }
 
-pub fn last(c: Counts, links: &[u32], x: u32) -> Answer
+pub fn last(c: Counts, links: &[u32], x: u32) -> Result<Answer, Refusal>
     requires { Sound (total c + 1) links.now }
     ensures { result ≡ last_told c x links.now }
 {
-    let ok = c.is_head(x);
-    if !ok {
-        return Answer::Refused(Refusal::Operand);
+    if !c.is_head(x) {
+        return Err(Refusal::Operand);
     }
-    let i = c.total() + 1 + wide(x);
-    Answer::Linkage(link_or(c.heads, links[i]))
+    let i = c.total() + 1 + x as usize;
+    Ok(Answer::Linkage(link_or(c.heads, links[i])))
 }
 
-pub fn suc(c: Counts, links: &[u32], x: u32) -> Answer
+pub fn suc(c: Counts, links: &[u32], x: u32) -> Result<Answer, Refusal>
     requires { Sound (total c + 1) links.now }
     ensures { result ≡ suc_told c x links.now }
 {
-    let ok = c.is_linkage(x);
-    if !ok {
-        return Answer::Refused(Refusal::Operand);
+    if !c.is_linkage(x) {
+        return Err(Refusal::Operand);
     }
-    let i = wide(x);
-    Answer::Linkage(link_or(c.heads, links[i]))
+    let i = x as usize;
+    Ok(Answer::Linkage(link_or(c.heads, links[i])))
 }
 
-pub fn pred(c: Counts, links: &[u32], x: u32) -> Answer
+pub fn pred(c: Counts, links: &[u32], x: u32) -> Result<Answer, Refusal>
     requires { Sound (total c + 1) links.now }
     ensures { result ≡ pred_told c x links.now }
 {
-    let ok = c.is_linkage(x);
-    if !ok {
-        return Answer::Refused(Refusal::Operand);
+    if !c.is_linkage(x) {
+        return Err(Refusal::Operand);
     }
-    let i = c.total() + 1 + wide(x);
-    Answer::Linkage(link_or(c.heads, links[i]))
+    let i = c.total() + 1 + x as usize;
+    Ok(Answer::Linkage(link_or(c.heads, links[i])))
 }
 
-pub fn empty(c: Counts, links: &[u32], x: u32) -> Answer
+pub fn empty(c: Counts, links: &[u32], x: u32) -> Result<Answer, Refusal>
     requires { Sound (total c + 1) links.now }
     ensures { result ≡ empty_told c x links.now }
 {
-    let ok = c.is_head(x);
-    if !ok {
-        return Answer::Refused(Refusal::Operand);
+    if !c.is_head(x) {
+        return Err(Refusal::Operand);
     }
-    let i = wide(x);
-    Answer::Truth(links[i] == x)
+    let i = x as usize;
+    Ok(Answer::Truth(links[i] == x))
 }
 
-pub fn cardinal(c: Counts, links: &[u32], x: u32) -> Answer
+pub fn cardinal(c: Counts, links: &[u32], x: u32) -> Result<Answer, Refusal>
     requires { Sound (total c + 1) links.now }
     ensures { result ≡ cardinal_told c x links.now }
 {
-    let ok = c.is_head(x);
-    if !ok {
-        return Answer::Refused(Refusal::Operand);
+    if !c.is_head(x) {
+        return Err(Refusal::Operand);
     }
     let n = c.total();
-    let k = count(links, n + 1, wide(x), n + 1);
-    Answer::Number(k as u64)
+    let k = count(links, n + 1, x as usize, n + 1);
+    Ok(Answer::Number(k as u64))
 }
 
 // The head of the set in which a link stands, none where it stands in none: what the calls tell that take it out.
-pub fn head(c: Counts, links: &[u32], x: u32) -> Answer
+pub fn head(c: Counts, links: &[u32], x: u32) -> Result<Answer, Refusal>
     requires { Sound (total c + 1) links.now }
     ensures { result ≡ head_told c x links.now }
 {
-    let ok = c.is_link(x);
-    if !ok {
-        return Answer::Refused(Refusal::Operand);
+    if !c.is_link(x) {
+        return Err(Refusal::Operand);
     }
     let n = c.total();
-    Answer::Linkage(head_at(links, n + 1, c.heads, x))
+    Ok(Answer::Linkage(head_at(links, n + 1, c.heads, x)))
 }

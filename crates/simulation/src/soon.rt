@@ -20,7 +20,7 @@ fn direct(
     f: u32,
     time: u64,
     x: u32,
-) -> Answer
+) -> Result<Answer, Refusal>
     requires axis_sound { AxisSound m axis.old }
     requires x_lt_m { x < m }
     requires m_bound { m ≤ 1026 }
@@ -29,10 +29,10 @@ fn direct(
         axis.new times.new result }
 {
     if is_vain(axis, m, marks, false, 0, x, 0) {
-        return Answer::Done;
+        return Ok(Answer::Done);
     }
     schedule(axis, m, times, 0, x, 0, time, time);
-    Answer::Done
+    Ok(Answer::Done)
 }
 
 // Activate after a delay, with the same known.
@@ -45,7 +45,7 @@ fn delayed(
     time: u64,
     x: u32,
     d: u64,
-) -> Answer
+) -> Result<Answer, Refusal>
     requires axis_sound { AxisSound m axis.old }
     requires x_lt_m { x < m }
     requires m_bound { m ≤ 1026 }
@@ -54,13 +54,13 @@ fn delayed(
         axis.new times.new result }
 {
     if is_vain(axis, m, marks, false, 2, x, 0) {
-        return Answer::Done;
+        return Ok(Answer::Done);
     }
     if d > TIME_LIMIT - time {
-        return Answer::Refused(Refusal::TimeLimit);
+        return Err(Refusal::TimeLimit);
     }
     schedule(axis, m, times, 2, x, 0, time, time + d);
-    Answer::Done
+    Ok(Answer::Done)
 }
 
 // Activate with no clause, where current's place and time are known.
@@ -72,15 +72,14 @@ pub fn activate_now(
     f: u32,
     time: u64,
     x: u32,
-) -> Answer
+) -> Result<Answer, Refusal>
     requires judged { Judged c axis.old }
     requires noticed { Noticed (half c) f time axis.old times.old }
     ensures { Answers (half c) (timed_step c false 0 x 0 (pos 0) marks.now (sqs axis.old times.old))
         axis.new times.new result }
 {
-    let ok = process_or_none(c, x);
-    if !ok {
-        return Answer::Refused(Refusal::Operand);
+    if !process_or_none(c, x) {
+        return Err(Refusal::Operand);
     }
     let p = wide(c.processes);
     let q = c.place_of(x);
@@ -97,15 +96,14 @@ pub fn activate_after(
     time: u64,
     x: u32,
     t: i64,
-) -> Answer
+) -> Result<Answer, Refusal>
     requires judged { Judged c axis.old }
     requires noticed { Noticed (half c) f time axis.old times.old }
     ensures { Answers (half c) (timed_step c false 2 x 0 t marks.now (sqs axis.old times.old))
         axis.new times.new result }
 {
-    let ok = process_or_none(c, x);
-    if !ok {
-        return Answer::Refused(Refusal::Operand);
+    if !process_or_none(c, x) {
+        return Err(Refusal::Operand);
     }
     let p = wide(c.processes);
     let q = c.place_of(x);

@@ -34,7 +34,7 @@ pub fn process_or_none(c: Counts, x: u32) -> bool
     c.is_process(x)
 }
 
-pub fn hold(c: Counts, axis: &mut [u32], times: &mut [u64], t: i64) -> Answer
+pub fn hold(c: Counts, axis: &mut [u32], times: &mut [u64], t: i64) -> Result<Answer, Refusal>
     requires { Takeable c axis.old times.old }
     ensures { Answers (half c) (hold_step c t (sqs axis.old times.old)) axis.new times.new
         result }
@@ -45,7 +45,14 @@ pub fn hold(c: Counts, axis: &mut [u32], times: &mut [u64], t: i64) -> Answer
 }
 
 // Hold, where current's place and time are known.
-pub fn hold_now(c: Counts, axis: &mut [u32], times: &mut [u64], f: u32, time: u64, t: i64) -> Answer
+pub fn hold_now(
+    c: Counts,
+    axis: &mut [u32],
+    times: &mut [u64],
+    f: u32,
+    time: u64,
+    t: i64,
+) -> Result<Answer, Refusal>
     requires takeable { Takeable c axis.old times.old }
     requires noticed { Noticed (half c) f time axis.old times.old }
     ensures { Answers (half c) (hold_step c t (sqs axis.old times.old)) axis.new times.new
@@ -56,7 +63,7 @@ pub fn hold_now(c: Counts, axis: &mut [u32], times: &mut [u64], f: u32, time: u6
     procedures::hold_first(axis, p + 2, times, f, time, d)
 }
 
-pub fn passivate(c: Counts, axis: &mut [u32], times: &mut [u64]) -> Answer
+pub fn passivate(c: Counts, axis: &mut [u32], times: &mut [u64]) -> Result<Answer, Refusal>
     requires { Takeable c axis.old times.old }
     ensures { Answers (half c) (passivate_step c (sqs axis.old times.old)) axis.new
         times.new result }
@@ -65,14 +72,13 @@ pub fn passivate(c: Counts, axis: &mut [u32], times: &mut [u64]) -> Answer
     procedures::passivate(axis, p + 2, times)
 }
 
-pub fn cancel(c: Counts, axis: &mut [u32], times: &mut [u64], x: u32) -> Answer
+pub fn cancel(c: Counts, axis: &mut [u32], times: &mut [u64], x: u32) -> Result<Answer, Refusal>
     requires { Judged c axis.old }
     ensures { Answers (half c) (cancel_step c x (sqs axis.old times.old)) axis.new times.new
         result }
 {
-    let ok = process_or_none(c, x);
-    if !ok {
-        return Answer::Refused(Refusal::Operand);
+    if !process_or_none(c, x) {
+        return Err(Refusal::Operand);
     }
     let p = wide(c.processes);
     let q = c.place_of(x);
@@ -86,8 +92,7 @@ fn parties_fine(c: Counts, clause: u32, x: u32, y: u32) -> bool
     if 6 < clause {
         return false;
     }
-    let a = process_or_none(c, x);
-    if !a {
+    if !process_or_none(c, x) {
         return false;
     }
     if clause < 5 {
@@ -125,14 +130,13 @@ pub fn activate(
     x: u32,
     y: u32,
     t: i64,
-) -> Answer
+) -> Result<Answer, Refusal>
     requires { Judged c axis.old }
     ensures { Answers (half c) (timed_step c again clause x y t marks.now (sqs axis.old times.old))
         axis.new times.new result }
 {
-    let ok = parties_fine(c, clause, x, y);
-    if !ok {
-        return Answer::Refused(Refusal::Operand);
+    if !parties_fine(c, clause, x, y) {
+        return Err(Refusal::Operand);
     }
     let p = wide(c.processes);
     let q = c.place_of(x);
@@ -142,7 +146,12 @@ pub fn activate(
     activation::activate(axis, p + 2, times, marks, again, k, q, s, d)
 }
 
-pub fn finish(c: Counts, axis: &mut [u32], times: &mut [u64], marks: &mut [u8]) -> Answer
+pub fn finish(
+    c: Counts,
+    axis: &mut [u32],
+    times: &mut [u64],
+    marks: &mut [u8],
+) -> Result<Answer, Refusal>
     requires { Takeable c axis.old times.old }
     ensures { FinishMade c (finish_step c marks.old (sqs axis.old times.old)) axis.new
         times.new marks.new result }
@@ -150,7 +159,7 @@ pub fn finish(c: Counts, axis: &mut [u32], times: &mut [u64], marks: &mut [u8]) 
     let p = wide(c.processes);
     let f = first(axis, p + 2);
     if f == 1 {
-        return Answer::Refused(Refusal::Operand);
+        return Err(Refusal::Operand);
     }
     procedures::finish(axis, p + 2, times, marks)
 }
@@ -170,7 +179,7 @@ pub fn wait_known(
     axis: &mut [u32],
     times: &mut [u64],
     y: u32,
-) -> Answer
+) -> Result<Answer, Refusal>
     requires takeable { Takeable c axis.old times.old }
     requires sound { Sound (total c + 1) links.old }
     requires roomy { Roomy c links.old (linkage_at c (first_of (half c) axis.old)) y }
@@ -179,13 +188,13 @@ pub fn wait_known(
 {
     let m = wide(c.processes) + 2;
     if lone(axis, m) {
-        return Answer::Refused(Refusal::NoNotice);
+        return Err(Refusal::NoNotice);
     }
     let at = first(axis, m);
     let x = current_link(c, at);
     precede(links, c.total() + 1, x, y);
     drop_first(axis, m, times, at);
-    Answer::Done
+    Ok(Answer::Done)
 }
 
 pub fn wait(
@@ -195,27 +204,26 @@ pub fn wait(
     times: &mut [u64],
     y: u32,
     bounds: &mut [u32],
-) -> Answer
+) -> Result<Answer, Refusal>
     requires takeable { Takeable c axis.old times.old }
     requires sound { Sound (total c + 1) links.old }
     requires covers { Covers c 0 links.old bounds.old }
     ensures { WaitEntered c links.old (wait_step c y links.old (sqs axis.old times.old))
         links.new axis.new times.new bounds.new result }
 {
-    let ok = head_or_none(c, y);
-    if !ok {
-        return Answer::Refused(Refusal::Operand);
+    if !head_or_none(c, y) {
+        return Err(Refusal::Operand);
     }
     let m = wide(c.processes) + 2;
     let f = first(axis, m);
     let x = current_link(c, f);
     if no_room(c, links, x, y, bounds) {
-        return Answer::Refused(Refusal::Full);
+        return Err(Refusal::Full);
     }
     if lone(axis, m) {
-        return Answer::Refused(Refusal::NoNotice);
+        return Err(Refusal::NoNotice);
     }
     precede(links, c.total() + 1, x, y);
     drop_first(axis, m, times, f);
-    Answer::Done
+    Ok(Answer::Done)
 }

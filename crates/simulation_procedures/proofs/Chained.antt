@@ -1,4 +1,5 @@
 -- What a chain of calls makes.
+use Rattle.std.specs.Prelude.{Ok, Err}
 use Prim.Native.Nat.{ℕ, ◌+◌, ◌-◌, ◌<◌, ◌≤◌}
 use mathlib.Core.Path.{◌≡◌, sym, ap, ap₂, ◌∙◌}
 use mathlib.Core.Logic.{◌≢◌}
@@ -10,8 +11,8 @@ use borrow.Author.Tests.{eq-eqb, ne_eqb, le-leb, lt-leb, lt-ltb, le-ltb}
 use Rattle.ring_laws.specs.Table.{Made, unlinked, linked_behind}
 use Rattle.model.specs.Counts.{limit}
 use Rattle.model.specs.declared.Refusal.TheVariants.{NoNotice, TimeLimit}
-use Rattle.model.specs.declared.answer.Answer.{Answer}
-use Rattle.model.specs.declared.answer.Answer.TheVariants.{Done, Refused}
+use Rattle.model.specs.Answers.{Answered}
+use Rattle.model.specs.declared.answer.Answer.TheVariants.{Done}
 use Rattle.model_laws.specs.Now.{AxisSound, first_of, next_place, prev_place, idle_on, time_of}
 use Rattle.simulation_laws.specs.Procedures.{Sqs, made, found, drop_on, put_on, held_at, held, passivated, cancelled, finished_marks, due_at, place_for, put_by_clause, activated}
 use Rattle.simulation_laws.specs.Promise.{sqs, Left, Answers, AnswersMarked, Place, Stored, Read, Lone, Vain, BesideIdle, Due, capped_in, capped_out}
@@ -75,31 +76,31 @@ module _ (m : ℕ) (a t : List ℕ) where
     the_time : time_of m a t ≡ y
     the_time = sym (r.is ∙ ap (λ (j : ℕ). get_or t j 0) (ez ∙ px.is))
 
-    pub hold_5 : AxisSound m a → limit < y + d → Answers m (held m d (sqs a t)) a t (Refused TimeLimit)
+    pub hold_5 : AxisSound m a → limit < y + d → Answers m (held m d (sqs a t)) a t (Err TimeLimit)
     unfolding held
     hold_5 so l = record { is = rw (the_time, lt-leb (y + d) limit l); sound = so }
 
-    pub hold_0 : (a' t' : List ℕ) → y + d ≤ limit → Left m (held_at m x (y + d) (sqs a t)) a' t' → Answers m (held m d (sqs a t)) a' t' Done
+    pub hold_0 : (a' t' : List ℕ) → y + d ≤ limit → Left m (held_at m x (y + d) (sqs a t)) a' t' → Answers m (held m d (sqs a t)) a' t' (Ok Done)
     unfolding held
     hold_0 a' t' l k = record { is = rw (the_time, le-leb (y + d) limit l, ← px.is) (ap made k.is); sound = k.sound }
 
   -- passivate, cancel, finish
   module _ (r : Bool) (lo : Lone m a r) where
-    pub passive_4 : AxisSound m a → r ≡ true → Answers m (passivated m (sqs a t)) a t (Refused NoNotice)
+    pub passive_4 : AxisSound m a → r ≡ true → Answers m (passivated m (sqs a t)) a t (Err NoNotice)
     unfolding passivated
     passive_4 so e = record { is = rw (sym lo.is ∙ e); sound = so }
 
     pub passive_0 : (x : ℕ) (a' t' : List ℕ) → r ≡ false → Place m (first_of m a) x → Left m (drop_on m x (sqs a t)) a' t'
-        → Answers m (passivated m (sqs a t)) a' t' Done
+        → Answers m (passivated m (sqs a t)) a' t' (Ok Done)
     unfolding passivated
     passive_0 x a' t' e p k = record { is = rw (sym lo.is ∙ e, ← p.is) (ap made k.is); sound = k.sound }
 
-    pub finish_4 : (marks : List ℕ) → AxisSound m a → r ≡ true → AnswersMarked m (passivated m (sqs a t)) (finished_marks m marks (sqs a t)) a t marks (Refused NoNotice)
+    pub finish_4 : (marks : List ℕ) → AxisSound m a → r ≡ true → AnswersMarked m (passivated m (sqs a t)) (finished_marks m marks (sqs a t)) a t marks (Err NoNotice)
     unfolding finished_marks
     finish_4 marks so e = record { is = (passive_4 so e).is; sound = so; marked = rw (sym lo.is ∙ e) }
 
     pub finish_0 : (x z : ℕ) (marks marks' a' t' : List ℕ) → r ≡ false → Place m (first_of m a) x → z ≡ x → Stored z 1 marks marks'
-        → Left m (drop_on m x (sqs a t)) a' t' → AnswersMarked m (passivated m (sqs a t)) (finished_marks m marks (sqs a t)) a' t' marks' Done
+        → Left m (drop_on m x (sqs a t)) a' t' → AnswersMarked m (passivated m (sqs a t)) (finished_marks m marks (sqs a t)) a' t' marks' (Ok Done)
     unfolding finished_marks
     finish_0 x z marks marks' a' t' e p ez s k =
         record {
@@ -109,16 +110,16 @@ module _ (m : ℕ) (a t : List ℕ) where
         }
 
   module _ (x : ℕ) (b : Bool) (is : b ≡ idle_on a x) where
-    pub cancel_idle : AxisSound m a → b ≡ true → Answers m (cancelled m x (sqs a t)) a t Done
+    pub cancel_idle : AxisSound m a → b ≡ true → Answers m (cancelled m x (sqs a t)) a t (Ok Done)
     unfolding cancelled
     cancel_idle so e = record { is = rw (sym is ∙ e); sound = so }
 
-    pub cancel_4 : (r : Bool) → AxisSound m a → b ≡ false → Lone m a r → r ≡ true → Answers m (cancelled m x (sqs a t)) a t (Refused NoNotice)
+    pub cancel_4 : (r : Bool) → AxisSound m a → b ≡ false → Lone m a r → r ≡ true → Answers m (cancelled m x (sqs a t)) a t (Err NoNotice)
     unfolding cancelled
     cancel_4 r so n lo e = record { is = rw (sym is ∙ n, sym lo.is ∙ e); sound = so }
 
     pub cancel_0 : (r : Bool) (a' t' : List ℕ) → b ≡ false → Lone m a r → r ≡ false → Left m (drop_on m x (sqs a t)) a' t'
-        → Answers m (cancelled m x (sqs a t)) a' t' Done
+        → Answers m (cancelled m x (sqs a t)) a' t' (Ok Done)
     unfolding cancelled
     cancel_0 r a' t' n lo e k = record { is = rw (sym is ∙ n, sym lo.is ∙ e) (ap made k.is); sound = k.sound }
 
@@ -151,7 +152,7 @@ module _ (m : ℕ) (a t : List ℕ) where
 
   -- ACTIVATE
   module _ (again : Bool) (k x y d : ℕ) (marks : List ℕ) (v : Bool) (va : Vain again k x y marks a v) where
-    pub vain_0 : AxisSound m a → v ≡ true → Answers m (activated m again k x y d marks (sqs a t)) a t Done
+    pub vain_0 : AxisSound m a → v ≡ true → Answers m (activated m again k x y d marks (sqs a t)) a t (Ok Done)
     unfolding activated
     vain_0 so e = record { is = rw (sym va.is ∙ e); sound = so }
 
@@ -159,7 +160,7 @@ module _ (m : ℕ) (a t : List ℕ) where
       now_is : time_of m a t ≡ w
       now_is = sym (r.is ∙ ap (λ (j : ℕ). get_or t j 0) (ez ∙ px.is))
 
-      pub active_5 : AxisSound m a → limit < u → Answers m (activated m again k x y d marks (sqs a t)) a t (Refused TimeLimit)
+      pub active_5 : AxisSound m a → limit < u → Answers m (activated m again k x y d marks (sqs a t)) a t (Err TimeLimit)
       unfolding activated
       active_5 so l = record { is = rw (sym va.is ∙ e, now_is, lt-leb (due_at k y d w t) limit (capped_out (due_at k y d w t) u du.is l)); sound = so }
 
@@ -167,12 +168,12 @@ module _ (m : ℕ) (a t : List ℕ) where
         due_u : due_at k y d w t ≡ u
         due_u = capped_in (due_at k y d w t) u du.is l
 
-        pub active_idle : (a' t' : List ℕ) (i : Answer) → b ≡ true → Answers m (cancelled m x (sqs a t)) a' t' i → Answers m (activated m again k x y d marks (sqs a t)) a' t' i
+        pub active_idle : (a' t' : List ℕ) (i : Answered) → b ≡ true → Answers m (cancelled m x (sqs a t)) a' t' i → Answers m (activated m again k x y d marks (sqs a t)) a' t' i
         unfolding activated
         active_idle a' t' i f c =
             record { is = rw (sym va.is ∙ e, now_is, due_u, le-leb u limit l, sym be.is ∙ f) c.is; sound = c.sound }
 
-        pub active_0 : (a' t' : List ℕ) → b ≡ false → Left m (put_by_clause m k x y w u (sqs a t)) a' t' → Answers m (activated m again k x y d marks (sqs a t)) a' t' Done
+        pub active_0 : (a' t' : List ℕ) → b ≡ false → Left m (put_by_clause m k x y w u (sqs a t)) a' t' → Answers m (activated m again k x y d marks (sqs a t)) a' t' (Ok Done)
         unfolding activated
         active_0 a' t' f c =
             record { is = rw (sym va.is ∙ e, now_is, due_u, le-leb u limit l, sym be.is ∙ f) (ap made c.is); sound = c.sound }

@@ -140,7 +140,7 @@ pub fn activate(
     x: u32,
     y: u32,
     d: u64,
-) -> Answer
+) -> Result<Answer, Refusal>
     requires axis_sound { AxisSound m axis.old }
     requires x_lt_m { x < m }
     requires y_lt_m { y < m }
@@ -149,19 +149,19 @@ pub fn activate(
         axis.new times.new result }
 {
     if is_vain(axis, m, marks, again, k, x, y) {
-        return Answer::Done;
+        return Ok(Answer::Done);
     }
     let c = first(axis, m);
     let time = due(times, wide(c));
     let u = due_at(times, k, y, d, time);
     if u > TIME_LIMIT {
-        return Answer::Refused(Refusal::TimeLimit);
+        return Err(Refusal::TimeLimit);
     }
     if beside_idle(axis, m, k, y) {
         return cancel(axis, m, times, x);
     }
     schedule(axis, m, times, k, x, y, time, u);
-    Answer::Done
+    Ok(Answer::Done)
 }
 
 // T where that is above 0, else 0.

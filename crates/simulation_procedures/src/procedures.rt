@@ -39,21 +39,21 @@ pub fn hold_first(
     x: u32,
     time: u64,
     d: u64,
-) -> Answer
+) -> Result<Answer, Refusal>
     requires axis_sound { AxisSound m axis.old }
     requires led { Led m axis.old times.old }
     requires noticed { Noticed m x time axis.old times.old }
     ensures { Answers m (held m d (sqs axis.old times.old)) axis.new times.new result }
 {
     if d > TIME_LIMIT - time {
-        return Answer::Refused(Refusal::TimeLimit);
+        return Err(Refusal::TimeLimit);
     }
     hold_at(axis, m, times, x, time + d);
-    Answer::Done
+    Ok(Answer::Done)
 }
 
 // Hold.
-pub fn hold(axis: &mut [u32], m: usize, times: &mut [u64], d: u64) -> Answer
+pub fn hold(axis: &mut [u32], m: usize, times: &mut [u64], d: u64) -> Result<Answer, Refusal>
     requires axis_sound { AxisSound m axis.old }
     requires led { Led m axis.old times.old }
     ensures { Answers m (held m d (sqs axis.old times.old)) axis.new times.new result }
@@ -61,43 +61,48 @@ pub fn hold(axis: &mut [u32], m: usize, times: &mut [u64], d: u64) -> Answer
     let c = first(axis, m);
     let time = due(times, wide(c));
     if time > TIME_LIMIT {
-        return Answer::Refused(Refusal::TimeLimit);
+        return Err(Refusal::TimeLimit);
     }
     hold_first(axis, m, times, c, time, d)
 }
 
 // Passivate.
-pub fn passivate(axis: &mut [u32], m: usize, times: &mut [u64]) -> Answer
+pub fn passivate(axis: &mut [u32], m: usize, times: &mut [u64]) -> Result<Answer, Refusal>
     requires axis_sound { AxisSound m axis.old }
     requires led { Led m axis.old times.old }
     ensures { Answers m (passivated m (sqs axis.old times.old)) axis.new times.new result }
 {
     if lone(axis, m) {
-        return Answer::Refused(Refusal::NoNotice);
+        return Err(Refusal::NoNotice);
     }
     let c = first(axis, m);
     drop_first(axis, m, times, c);
-    Answer::Done
+    Ok(Answer::Done)
 }
 
 // Cancel.
-pub fn cancel(axis: &mut [u32], m: usize, times: &mut [u64], x: u32) -> Answer
+pub fn cancel(axis: &mut [u32], m: usize, times: &mut [u64], x: u32) -> Result<Answer, Refusal>
     requires axis_sound { AxisSound m axis.old }
     requires x_lt_m { x < m }
     ensures { Answers m (cancelled m x (sqs axis.old times.old)) axis.new times.new result }
 {
     if idle(axis, m, x) {
-        return Answer::Done;
+        return Ok(Answer::Done);
     }
     if lone(axis, m) {
-        return Answer::Refused(Refusal::NoNotice);
+        return Err(Refusal::NoNotice);
     }
     drop(axis, m, times, x);
-    Answer::Done
+    Ok(Answer::Done)
 }
 
 // Finish: current is marked terminated, then passivated.
-pub fn finish(axis: &mut [u32], m: usize, times: &mut [u64], marks: &mut [u8]) -> Answer
+pub fn finish(
+    axis: &mut [u32],
+    m: usize,
+    times: &mut [u64],
+    marks: &mut [u8],
+) -> Result<Answer, Refusal>
     requires axis_sound { AxisSound m axis.old }
     requires led { Led m axis.old times.old }
     ensures { AnswersMarked m (passivated m (sqs axis.old times.old))
@@ -105,10 +110,10 @@ pub fn finish(axis: &mut [u32], m: usize, times: &mut [u64], marks: &mut [u8]) -
         marks.new result }
 {
     if lone(axis, m) {
-        return Answer::Refused(Refusal::NoNotice);
+        return Err(Refusal::NoNotice);
     }
     let c = first(axis, m);
     mark(marks, wide(c));
     drop_first(axis, m, times, c);
-    Answer::Done
+    Ok(Answer::Done)
 }

@@ -1,10 +1,6 @@
-use mathlib.Core.Path.{refl}
 use borrow.Author.Tests.{le-leb, lt-leb}
-use Rattle.simset_laws.proofs.Walk.{walk_start, walk_found, walk_on, walk_out}
+use Rattle.simset_laws.proofs.Walk.{walk_found, walk_on, walk_out}
 use Rattle.simset.proofs.heads.head_at.Goals as goal
-
-pub loop-k-init : goal.loop-k-init
-loop-k-init c = rw c.wide-a.ensures (walk_start _ _ _ _ _ (c.requires.sound.inside _) _ refl)
 
 pub returns-then-i-heads : goal.returns-then-i-heads
 returns-then-i-heads c = walk_found _ _ _ _ _ _ _ c.loop-k.invariant c.loop-k-test.true (le-leb _ _ c.if-i-heads.true)

@@ -7,8 +7,5 @@ returns-then-y-eq0 c = precedes_none _ _ _ _ _ _ c.wide.ensures c.unlink.ensures
 pub returns-then-t-b-eq0 : goal.returns-then-t-b-eq0
 returns-then-t-b-eq0 c = precedes_off _ _ _ _ _ _ c.wide.ensures c.unlink.ensures c.if-y-eq0.false _ c.wide-b.ensures c.if-t-b-eq0.true
 
-pub link_before-requires-clause-sound : goal.link_before-requires-clause-sound
-link_before-requires-clause-sound c = c.unlink.ensures.sound
-
 pub returns : goal.returns
 returns c = precedes_on _ _ _ _ _ _ c.wide.ensures c.unlink.ensures c.if-y-eq0.false _ c.wide-b.ensures _ c.if-t-b-eq0.false c.link_before.ensures

@@ -1,35 +1,19 @@
-use Rattle.simset_laws.specs.Promise.{link_in, linkage_in, none_or, followed_at, passed, first_failed}
+use Rattle.simset_laws.specs.Promise.{linkage_in, none_or, followed_at, passed, first_failed}
 use Rattle.simset_laws.proofs.BoundLaws.{covers_followed}
 use Rattle.simset_laws.specs.Entering.{entering_refused, entering_beside}
 use Rattle.simset_laws.proofs.Entering.{entering_not, beside_may}
 use Rattle.simset_laws.specs.Calls.{follow_step}
-use native.Mathlib.Omega.{arith}
 use Rattle.std.proofs.Common.{ap, not}
 use Rattle.simset.proofs.steps.follow.Goals as goal
 
-pub returns-then-not-a : goal.returns-then-not-a
+pub returns-then-not-is_link : goal.returns-then-not-is_link
 unfolding follow_step
-returns-then-not-a c = entering_not _ _ _ _ _ _ c.requires.sound c.requires.covers (first_failed _ _ _ c.is_link-a.ensures (ap not c.if-not-a.true))
+returns-then-not-is_link c = entering_not _ _ _ _ _ _ c.requires.sound c.requires.covers (first_failed _ _ _ c.is_link.ensures (ap not c.if-not-is_link.true))
 
-pub beside-requires-clause-sound : goal.beside-requires-clause-sound
-beside-requires-clause-sound c = c.requires.sound
-
-pub beside-requires-clause-x_bound : goal.beside-requires-clause-x_bound
-beside-requires-clause-x_bound c = link_in c.args.c c.args.x (passed _ _ c.is_link-a.ensures (ap not c.if-not-a.false))
-
-pub beside-requires-clause-covers : goal.beside-requires-clause-covers
-beside-requires-clause-covers c = c.requires.covers
-
-pub follow-requires-clause-sound : goal.follow-requires-clause-sound
-follow-requires-clause-sound c = rw c.total-n.ensures c.requires.sound
-
-pub follow-requires-clause-x_lt_m : goal.follow-requires-clause-x_lt_m
-follow-requires-clause-x_lt_m c = (omega (arith, c.total-n.ensures, link_in c.args.c c.args.x (passed _ _ c.is_link-a.ensures (ap not c.if-not-a.false))), omega (arith, c.total-n.ensures, (none_or _ c.args.y _ (linkage_in c.args.c c.args.y) (beside_may _ _ _ _ _ _ _ c.beside.ensures c.in-Fine.is))))
-
-pub returns-in-Refused : goal.returns-in-Refused
+pub returns-in-Err : goal.returns-in-Err
 unfolding follow_step
-returns-in-Refused c = entering_refused _ _ _ _ _ _ _ c.requires.sound _ _ c.beside.ensures (passed _ _ c.is_link-a.ensures (ap not c.if-not-a.false)) _ c.in-Refused.is
+returns-in-Err c = entering_refused _ _ _ _ _ _ _ c.requires.sound _ _ c.beside.ensures (passed _ _ c.is_link.ensures (ap not c.if-not-is_link.false)) _ c.in-Err.is
 
-pub returns-in-Fine : goal.returns-in-Fine
+pub returns-in-Ok : goal.returns-in-Ok
 unfolding follow_step
-returns-in-Fine c = entering_beside _ _ _ _ _ _ _ c.requires.sound _ _ c.beside.ensures (passed _ _ c.is_link-a.ensures (ap not c.if-not-a.false)) c.in-Fine.is _ (followed_at _ _ _ _ _ _ c.total-n.ensures c.follow.ensures) (covers_followed _ _ _ _ _ (passed _ _ c.is_link-a.ensures (ap not c.if-not-a.false)) (none_or _ c.args.y _ (linkage_in c.args.c c.args.y) (beside_may _ _ _ _ _ _ _ c.beside.ensures c.in-Fine.is)) (c.beside.ensures.covers c.in-Fine.is) _)
+returns-in-Ok c = entering_beside _ _ _ _ _ _ _ c.requires.sound _ _ c.beside.ensures (passed _ _ c.is_link.ensures (ap not c.if-not-is_link.false)) c.in-Ok.is _ (followed_at _ _ _ _ _ _ c.total-n.ensures c.follow.ensures) (covers_followed _ _ _ _ _ (passed _ _ c.is_link.ensures (ap not c.if-not-is_link.false)) (none_or _ c.args.y _ (linkage_in c.args.c c.args.y) (beside_may _ _ _ _ _ _ _ c.beside.ensures c.in-Ok.is)) (c.beside.ensures.covers c.in-Ok.is) _)

@@ -1,3 +1,4 @@
+use Rattle.std.specs.Prelude.{refl}
 use Rattle.simulation_laws.specs.ReadPromise.{is_in, evtime_idle, evtime_some}
 use Rattle.simset_laws.specs.Promise.{told_not, failed, passed}
 use Rattle.simulation_laws.specs.Calls.{evtime_told}
@@ -5,18 +6,18 @@ use native.Mathlib.Omega.{arith}
 use Rattle.std.proofs.Common.{ap, not}
 use Rattle.simula_queries.proofs.on_axis.evtime.Goals as goal
 
-pub returns-then-not-ok : goal.returns-then-not-ok
+pub returns-then-not-is_process : goal.returns-then-not-is_process
 unfolding evtime_told
-returns-then-not-ok c = told_not _ _ (failed _ _ c.is_process-ok.ensures (ap not c.if-not-ok.true))
+returns-then-not-is_process c = told_not _ _ (failed _ _ c.is_process.ensures (ap not c.if-not-is_process.true))
 
 pub idle-requires-clause-axis_sound : goal.idle-requires-clause-axis_sound
-idle-requires-clause-axis_sound c = rw c.wide-m.ensures c.requires.sound
+idle-requires-clause-axis_sound c = c.requires.sound
 
 pub idle-requires-clause-x_lt_m : goal.idle-requires-clause-x_lt_m
-idle-requires-clause-x_lt_m c = omega (arith, c.wide-m.ensures, c.place_of-q.ensures, is_in c.args.c c.args.x (passed _ _ c.is_process-ok.ensures (ap not c.if-not-ok.false)))
+idle-requires-clause-x_lt_m c = omega (arith, c.place_of-q.ensures, is_in c.args.c c.args.x (passed _ _ c.is_process.ensures (ap not c.if-not-is_process.false)))
 
 pub returns-then-idle : goal.returns-then-idle
-returns-then-idle c = evtime_idle c.args.c _ _ c.args.x (passed _ _ c.is_process-ok.ensures (ap not c.if-not-ok.false)) _ c.place_of-q.ensures _ c.idle.ensures c.if-idle.true
+returns-then-idle c = evtime_idle c.args.c _ _ c.args.x (passed _ _ c.is_process.ensures (ap not c.if-not-is_process.false)) _ c.place_of-q.ensures _ c.idle.ensures c.if-idle.true
 
 pub returns : goal.returns
-returns c = evtime_some c.args.c _ _ c.args.x (passed _ _ c.is_process-ok.ensures (ap not c.if-not-ok.false)) _ c.place_of-q.ensures _ c.idle.ensures _ _ c.if-idle.false c.wide.ensures c.due.ensures
+returns c = evtime_some c.args.c _ _ c.args.x (passed _ _ c.is_process.ensures (ap not c.if-not-is_process.false)) _ c.place_of-q.ensures _ c.idle.ensures _ _ c.if-idle.false refl c.due.ensures

@@ -1,3 +1,4 @@
+use Rattle.std.specs.Prelude.{refl}
 use Prim.Native.Nat.{ℕ, ◌+◌}
 use mathlib.Core.Path.{ap}
 use Rattle.simulation_laws.specs.ReadPromise.{is_in, nextev_idle, nextev_last, nextev_next}
@@ -7,30 +8,30 @@ use native.Mathlib.Omega.{arith}
 use Rattle.std.proofs.Common.{not}
 use Rattle.simula_queries.proofs.on_axis.nextev.Goals as goal
 
-pub returns-then-not-ok : goal.returns-then-not-ok
+pub returns-then-not-is_process : goal.returns-then-not-is_process
 unfolding nextev_told
-returns-then-not-ok c = told_not _ _ (failed _ _ c.is_process-ok.ensures (ap not c.if-not-ok.true))
+returns-then-not-is_process c = told_not _ _ (failed _ _ c.is_process.ensures (ap not c.if-not-is_process.true))
 
 pub idle-requires-clause-axis_sound : goal.idle-requires-clause-axis_sound
-idle-requires-clause-axis_sound c = rw c.wide-m.ensures c.requires.sound
+idle-requires-clause-axis_sound c = c.requires.sound
 
 pub idle-requires-clause-x_lt_m : goal.idle-requires-clause-x_lt_m
-idle-requires-clause-x_lt_m c = omega (arith, c.wide-m.ensures, c.place_of-q.ensures, is_in c.args.c c.args.x (passed _ _ c.is_process-ok.ensures (ap not c.if-not-ok.false)))
+idle-requires-clause-x_lt_m c = omega (arith, c.place_of-q.ensures, is_in c.args.c c.args.x (passed _ _ c.is_process.ensures (ap not c.if-not-is_process.false)))
 
 pub returns-then-idle : goal.returns-then-idle
-returns-then-idle c = nextev_idle c.args.c _ _ c.args.x (passed _ _ c.is_process-ok.ensures (ap not c.if-not-ok.false)) _ c.place_of-q.ensures _ c.idle.ensures c.if-idle.true
+returns-then-idle c = nextev_idle c.args.c _ _ c.args.x (passed _ _ c.is_process.ensures (ap not c.if-not-is_process.false)) _ c.place_of-q.ensures _ c.idle.ensures c.if-idle.true
 
 pub next-s-requires-clause-axis_sound : goal.next-s-requires-clause-axis_sound
-next-s-requires-clause-axis_sound c = rw c.wide-m.ensures c.requires.sound
+next-s-requires-clause-axis_sound c = c.requires.sound
 
 pub next-s-requires-clause-x_lt_m : goal.next-s-requires-clause-x_lt_m
-next-s-requires-clause-x_lt_m c = omega (arith, c.wide-m.ensures, c.place_of-q.ensures, is_in c.args.c c.args.x (passed _ _ c.is_process-ok.ensures (ap not c.if-not-ok.false)))
+next-s-requires-clause-x_lt_m c = omega (arith, c.place_of-q.ensures, is_in c.args.c c.args.x (passed _ _ c.is_process.ensures (ap not c.if-not-is_process.false)))
 
-pub returns-then-wide-m : goal.returns-then-wide-m
-returns-then-wide-m c = nextev_last c.args.c _ _ c.args.x (passed _ _ c.is_process-ok.ensures (ap not c.if-not-ok.false)) _ c.place_of-q.ensures _ c.idle.ensures c.if-idle.false _ _ _ (ap (λ (p : ℕ). p + 2) c.wide-m.ensures) c.next-s.ensures c.wide.ensures c.if-wide-m.true
+pub returns-then-s-m : goal.returns-then-s-m
+returns-then-s-m c = nextev_last c.args.c _ _ c.args.x (passed _ _ c.is_process.ensures (ap not c.if-not-is_process.false)) _ c.place_of-q.ensures _ c.idle.ensures c.if-idle.false _ _ _ refl c.next-s.ensures refl c.if-s-m.true
 
 pub current_link-requires : goal.current_link-requires
-current_link-requires c = (c.requires.allowed.heads_in, omega (arith, c.requires.allowed.processes_in, c.wide-m.ensures, c.wide.ensures, c.next-s.ensures.within, c.if-wide-m.false))
+current_link-requires c = (c.requires.allowed.heads_in, omega (arith, c.requires.allowed.processes_in, c.next-s.ensures.within, c.if-s-m.false))
 
 pub returns : goal.returns
-returns c = nextev_next c.args.c _ _ c.args.x (passed _ _ c.is_process-ok.ensures (ap not c.if-not-ok.false)) _ c.place_of-q.ensures _ c.idle.ensures c.if-idle.false _ _ _ (ap (λ (p : ℕ). p + 2) c.wide-m.ensures) c.next-s.ensures c.wide.ensures _ c.if-wide-m.false c.current_link.ensures
+returns c = nextev_next c.args.c _ _ c.args.x (passed _ _ c.is_process.ensures (ap not c.if-not-is_process.false)) _ c.place_of-q.ensures _ c.idle.ensures c.if-idle.false _ _ _ refl c.next-s.ensures refl _ c.if-s-m.false c.current_link.ensures

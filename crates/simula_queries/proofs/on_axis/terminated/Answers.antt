@@ -3,10 +3,10 @@ use Rattle.simulation_laws.specs.Calls.{terminated_told}
 use Rattle.std.proofs.Common.{ap, not}
 use Rattle.simula_queries.proofs.on_axis.terminated.Goals as goal
 
-pub returns-then-not-ok : goal.returns-then-not-ok
+pub returns-then-not-is_process : goal.returns-then-not-is_process
 unfolding terminated_told
-returns-then-not-ok c = told_not _ _ (failed _ _ c.is_process-ok.ensures (ap not c.if-not-ok.true))
+returns-then-not-is_process c = told_not _ _ (failed _ _ c.is_process.ensures (ap not c.if-not-is_process.true))
 
 pub returns : goal.returns
 unfolding terminated_told
-returns c = told _ _ _ (passed _ _ c.is_process-ok.ensures (ap not c.if-not-ok.false)) (cc)
+returns c = told _ _ _ (passed _ _ c.is_process.ensures (ap not c.if-not-is_process.false)) (cc)

@@ -3,10 +3,10 @@ use Rattle.simset_laws.specs.Calls.{empty_told}
 use Rattle.std.proofs.Common.{ap, not}
 use Rattle.simula_queries.proofs.on_links.empty.Goals as goal
 
-pub returns-then-not-ok : goal.returns-then-not-ok
+pub returns-then-not-is_head : goal.returns-then-not-is_head
 unfolding empty_told
-returns-then-not-ok c = told_not _ _ (failed _ _ c.is_head-ok.ensures (ap not c.if-not-ok.true))
+returns-then-not-is_head c = told_not _ _ (failed _ _ c.is_head.ensures (ap not c.if-not-is_head.true))
 
 pub returns : goal.returns
 unfolding empty_told
-returns c = told _ _ _ (passed _ _ c.is_head-ok.ensures (ap not c.if-not-ok.false)) (cc)
+returns c = told _ _ _ (passed _ _ c.is_head.ensures (ap not c.if-not-is_head.false)) (cc)

@@ -1,17 +1,11 @@
 use Rattle.simulation_laws.specs.Sign.{above_passed}
-use Rattle.simulation_laws.specs.StepPromise.{process_in}
-use Rattle.simset_laws.specs.Promise.{passed}
 use Rattle.simulation.proofs.ByFirst.{soon_3, soon_0}
 use native.Mathlib.Omega.{arith}
 use Rattle.std.proofs.Common.{ap, not}
 use Rattle.simulation.proofs.soon.activate_after.Goals as goal
 
-pub returns-then-not-ok : goal.returns-then-not-ok
-returns-then-not-ok c = soon_3 _ _ _ _ _ _ c.process_or_none-ok.ensures 2 (omega arith) _ c.requires.judged.sound (ap not c.if-not-ok.true)
-
-pub delayed-requires : goal.delayed-requires
-delayed-requires c =
-    rw c.wide-p.ensures (record { axis_sound = c.requires.judged.sound; x_lt_m = omega (arith, c.place_of-q.ensures, process_in c.args.c c.args.x (passed _ _ c.process_or_none-ok.ensures (ap not c.if-not-ok.false))); m_bound = omega (arith, c.requires.judged.allowed.processes_in); noticed = c.requires.noticed })
+pub returns-then-not-process_or_none : goal.returns-then-not-process_or_none
+returns-then-not-process_or_none c = soon_3 _ _ _ _ _ _ c.process_or_none.ensures 2 (omega arith) _ c.requires.judged.sound (ap not c.if-not-process_or_none.true)
 
 pub returns : goal.returns
-returns c = soon_0 _ _ _ _ _ _ c.process_or_none-ok.ensures 2 (omega arith) _ (ap not c.if-not-ok.false) _ _ _ (rw (c.wide-p.ensures, c.place_of-q.ensures, above_passed c.args.t c.ranges.t _ c.above_zero-d.ensures) at c.delayed.ensures)
+returns c = soon_0 _ _ _ _ _ _ c.process_or_none.ensures 2 (omega arith) _ (ap not c.if-not-process_or_none.false) _ _ _ (rw (c.wide-p.ensures, c.place_of-q.ensures, above_passed c.args.t c.ranges.t _ c.above_zero-d.ensures) at c.delayed.ensures)

@@ -2,10 +2,6 @@ use Rattle.simulation_laws.specs.Sign.{above_passed}
 use Rattle.simulation_laws.specs.Calls.{hold_step}
 use Rattle.simulation.proofs.steps.hold.Goals as goal
 
-pub hold-requires : goal.hold-requires
-hold-requires c =
-    rw (c.wide-p.ensures) (record { axis_sound = c.requires.judged.sound; led = c.requires.first_led })
-
 pub returns : goal.returns
 unfolding hold_step
 returns c = rw (c.wide-p.ensures, above_passed c.args.t c.ranges.t _ c.above_zero-d.ensures) at c.hold.ensures

@@ -1,18 +1,8 @@
-use native.Mathlib.Omega.{arith}
 use Rattle.simulation_procedures.proofs.Chained.{held_last, held_soon, held_moved}
 use Rattle.simulation_procedures.proofs.procedures.hold_at.Goals as goal
 
-pub set_time-requires : goal.set_time-requires
-set_time-requires c = omega (arith, c.wide-c.ensures, c.requires.first.timed)
-
 pub returns-then-s-m : goal.returns-then-s-m
 returns-then-s-m c = held_last _ _ _ _ _ _ _ _ c.wide-c.ensures c.next.ensures c.wide-s.ensures _ c.requires.axis_sound c.if-s-m.true c.set_time.ensures
-
-pub time_at-requires : goal.time_at-requires
-time_at-requires c = omega (arith, c.wide-s.ensures, c.if-s-m.false, c.next.ensures.within, c.requires.first.full)
-
-pub set_time-requires-then-u-time_at : goal.set_time-requires-then-u-time_at
-set_time-requires-then-u-time_at c = omega (arith, c.wide-c.ensures, c.requires.first.timed)
 
 pub returns-then-u-time_at : goal.returns-then-u-time_at
 returns-then-u-time_at c = held_soon _ _ _ _ _ _ _ _ c.wide-c.ensures c.next.ensures c.wide-s.ensures _ _ c.requires.axis_sound c.if-s-m.false c.time_at.ensures c.if-u-time_at.true c.set_time-then-u-time_at.ensures

@@ -1,15 +1,8 @@
-use Rattle.simulation_laws.specs.Promise.{first_at_lem}
 use Rattle.simulation_procedures.proofs.Chained.{passive_4, passive_0}
 use Rattle.simulation_procedures.proofs.procedures.passivate.Goals as goal
 
 pub returns-then-lone : goal.returns-then-lone
 returns-then-lone c = passive_4 _ _ _ _ c.lone.ensures c.requires.axis_sound c.if-lone.true
-
-pub drop_first-requires-clause-axis_sound : goal.drop_first-requires-clause-axis_sound
-drop_first-requires-clause-axis_sound c = c.requires.axis_sound
-
-pub drop_first-requires-clause-first : goal.drop_first-requires-clause-first
-drop_first-requires-clause-first c = first_at_lem _ _ _ _ c.requires.led c.first-c.ensures
 
 pub returns : goal.returns
 returns c = passive_0 _ _ _ _ c.lone.ensures _ _ _ c.if-lone.false c.first-c.ensures c.drop_first.ensures
