@@ -1,6 +1,6 @@
 -- "The C host hands over the sheet's bytes and a trace buffer, and gets a fresh run. The returned number is lines × 256 + code":
 -- the number and every byte of the trace are the plain machine's, from the fresh machine on.
-use Rattle.std.specs.Prelude.{ℕ, ◌+◌, ◌*◌, ◌≤◌, ◌<◌, ◌≡◌, true, List, ◌++◌, length, drop, if◌then◌else◌}
+use Rattle.std.specs.Prelude.{ℕ, ◌+◌, ◌*◌, ◌≤◌, ◌<◌, ◌≡◌, true, List, ◌++◌, length, drop, if◌then◌else◌, Ok, Err}
 use Rattle.std.proofs.Math.Path.{sym, ap, subst}
 use Rattle.std.proofs.Common.{◌∙◌}
 use borrow.Author.Tests.{lt-leb}
@@ -9,10 +9,8 @@ use Rattle.model.specs.declared.Refusal.{Refusal}
 use Rattle.model.specs.declared.Refusal.TheVariants.{Size}
 use Rattle.model.specs.Refusals.{refusal_number}
 use Rattle.sheet.specs.declared.header.Header.{Header}
-use Rattle.sheet.specs.declared.header.Checked.{Checked}
-use Rattle.sheet.specs.declared.header.Checked.TheVariants.{Accepted, Refused as NotAccepted}
 use Rattle.sheet.specs.Sheet.{counts_of, sheet_of}
-use Rattle.sheet.specs.Accepted.{accepted, checked}
+use Rattle.sheet.specs.Accepted.{Checked, accepted, checked}
 use Rattle.sheet.specs.Ranges.{checked_yes, checked_no}
 use Rattle.machine.specs.Machine.{fresh}
 use Rattle.machine.specs.Run.{call, line_size, trace_limit}
@@ -54,13 +52,13 @@ abbrev pub started_here : Counts → List ℕ → List ℕ → Started
 started_here c bytes tr = let o = started_on c bytes tr in record { trace = o.trace; result = o.result }
 
 module _ (bytes tr : List ℕ) (k : Checked) (ek : k ≡ checked bytes) where
-  pub host_8 : (q : Refusal) (r : ℕ) → k ≡ NotAccepted q → r ≡ refusal_number q → record { trace = tr; number = r } ≡ hosted bytes tr
+  pub host_8 : (q : Refusal) (r : ℕ) → k ≡ Err q → r ≡ refusal_number q → record { trace = tr; number = r } ≡ hosted bytes tr
   unfolding hosted
   host_8 q r e f =
       let n = checked_no bytes q (sym ek ∙ e) in
       rw n.0 (ap (λ (j : ℕ). record { trace = tr; number = j }) (f ∙ ap refusal_number n.1))
 
-  module _ (h : Header) (e : k ≡ Accepted h) where
+  module _ (h : Header) (e : k ≡ Ok h) where
     yes : (accepted bytes ≡ true) × (h.counts ≡ counts_of bytes)
     yes = let y = checked_yes bytes h (sym ek ∙ e) in (y.0, ap (λ (j : Header). j.counts) y.1)
 

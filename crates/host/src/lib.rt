@@ -9,17 +9,14 @@ ghost use Rattle.host.specs.Host.{hosted};
 
 use crate::start::start;
 use model::Refusal;
-use ring::wide;
 use run_answer::number;
 use run_laws::{RUN_WORDS, TRACE_LIMIT};
-use sheet::header::Checked;
 use sheet_check::check::check;
 
 fn refused(q: Refusal) -> u64
     ensures { result ≡ refusal_number q }
 {
-    let n = q.number();
-    n as u64
+    q.number() as u64
 }
 
 // Runs a sheet from fresh and answers lines × 256 + code: 0 finished, 200 full, else the refusal. The lines are written to the trace;
@@ -34,16 +31,15 @@ pub extern "C" fn nodbrize_run(sheet: &[u8], trace: &mut [u8]) -> u64
     let mut marks = [0u8; 1025];
     let mut positions = [0u32; 1025];
     let mut accums = [0i64; RUN_WORDS];
-    let read = check(sheet);
-    match read {
-        Checked::Refused(q) => refused(q),
-        Checked::Accepted(header) => {
+    match check(sheet) {
+        Err(q) => refused(q),
+        Ok(header) => {
             if TRACE_LIMIT < trace.len() {
                 return refused(Refusal::Size);
             }
             let c = header.counts;
             let n = c.total() + 1;
-            let p = wide(c.processes) + 1;
+            let p = c.processes as usize + 1;
             // two words in links for none and each linkage, in axis for none, each process and its own head
             let ran = start(
                 header,

@@ -30,7 +30,7 @@ pub(crate) fn start(
     }
         ≡ started_on header.counts sheet.now trace.old }
 {
-    fill(header, sheet, links, axis, times, marks, positions, accums);
+    let _ = fill(header, sheet, links, axis, times, marks, positions, accums);
     let c = header.counts;
     turns(
         c, sheet, links, axis, times, marks, positions, accums, trace,

@@ -3,9 +3,8 @@ ghost use Rattle.std.specs.Prelude.{◌≡◌};
 ghost use Rattle.run_laws.specs.Run.{lent};
 ghost use Rattle.run_laws.specs.Fresh.{filled};
 
-use model::verdict::Verdict;
+use model::Refusal;
 use run_fresh::fill;
-use sheet::header::Checked;
 use sheet_check::check::check;
 
 // Fills tables of the sheet's lengths; refuses a sheet by 8 and other lengths by 1, and changes nothing then.
@@ -17,7 +16,7 @@ pub fn fresh_run(
     marks: &mut [u8],
     positions: &mut [u32],
     accums: &mut [i64],
-) -> Verdict
+) -> Result<(), Refusal>
     ensures { record {
       run = lent links.new axis.new times.new marks.new
           positions.new accums.new;
@@ -26,11 +25,6 @@ pub fn fresh_run(
         ≡ filled sheet.now (lent links.old axis.old times.old marks.old
         positions.old accums.old) }
 {
-    let read = check(sheet);
-    match read {
-        Checked::Refused(q) => Verdict::Refused(q),
-        Checked::Accepted(header) => fill(
-            header, sheet, links, axis, times, marks, positions, accums,
-        ),
-    }
+    let header = check(sheet)?;
+    fill(header, sheet, links, axis, times, marks, positions, accums)
 }

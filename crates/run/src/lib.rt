@@ -3,18 +3,16 @@
 
 pub mod fresh;
 
-ghost use Rattle.std.specs.Prelude.{◌≡◌};
+ghost use Rattle.std.specs.Prelude.{◌≡◌, Ok};
 ghost use Rattle.sheet.specs.Accepted.{checked};
-ghost use Rattle.sheet.specs.declared.header.Checked.TheVariants.{Accepted};
 ghost use Rattle.run_laws.specs.Run.{lent, refused_ran, checked_run, run_on};
 
 use machine::End;
 use model::Refusal;
-use model::verdict::Verdict;
 use run_judge::judge_run;
 use run_laws::Ran;
 use run_turns::turns;
-use sheet::header::{Checked, Header};
+use sheet::header::Header;
 use sheet_check::check::check;
 
 fn refused(q: Refusal) -> Ran
@@ -38,18 +36,18 @@ fn run_accepted(
     accums: &mut [i64],
     trace: &mut [u8],
 ) -> Ran
-    requires { checked sheet.now ≡ Accepted header }
+    requires { checked sheet.now ≡ Ok header }
     ensures { record {
       run = lent links.new axis.new times.new marks.new
           positions.new accums.new;
       trace = trace.new;
       result = result;
     }
-        ≡ checked_run (Accepted header) sheet.now (lent links.old axis.old times.old
+        ≡ checked_run (Ok header) sheet.now (lent links.old axis.old times.old
         marks.old positions.old accums.old) trace.old }
 {
     let c = header.counts;
-    let v = judge_run(
+    match judge_run(
         c,
         header.records,
         links,
@@ -59,10 +57,9 @@ fn run_accepted(
         positions,
         accums,
         trace.len(),
-    );
-    match v {
-        Verdict::Refused(q) => refused(q),
-        Verdict::Fine => turns(
+    ) {
+        Err(q) => refused(q),
+        Ok(()) => turns(
             c, sheet, links, axis, times, marks, positions, accums, trace,
         ),
     }
@@ -89,10 +86,9 @@ pub fn run(
         ≡ run_on sheet.now (lent links.old axis.old times.old marks.old
         positions.old accums.old) trace.old }
 {
-    let read = check(sheet);
-    match read {
-        Checked::Refused(q) => refused(q),
-        Checked::Accepted(header) => run_accepted(
+    match check(sheet) {
+        Err(q) => refused(q),
+        Ok(header) => run_accepted(
             header, sheet, links, axis, times, marks, positions, accums, trace,
         ),
     }

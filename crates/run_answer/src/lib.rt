@@ -18,17 +18,9 @@ pub fn end_code(e: End) -> u32
     }
 }
 
-fn wider(n: u32) -> u64
-    ensures { result ≡ n }
-{
-    n as u64
-}
-
+#[tactic(auto, unfolding(run_laws::specs::Run::ran_number))]
 pub fn number(ran: Ran) -> u64
     ensures { result ≡ ran_number ran }
 {
-    let lines = wider(ran.lines);
-    let end = ran.end;
-    let code = wider(end_code(end));
-    lines * 256 + code
+    ran.lines as u64 * 256 + end_code(ran.end) as u64
 }

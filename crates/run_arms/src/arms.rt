@@ -16,8 +16,8 @@ ghost use Rattle.run_laws.specs.Needs.{Readable};
 
 use crate::reading::{x_of, y_of};
 use accum_update::flat::update_in;
-use model::Counts;
 use model::answer::Answer;
+use model::{Counts, Refusal};
 use sheet::records::{clause_at, t_at, x_at, y_at};
 use simulation::steps::{activate, cancel, hold_now, wait, wait_known};
 
@@ -29,7 +29,7 @@ pub fn hold_of(
     times: &mut [u64],
     f: u32,
     time: u64,
-) -> Answer
+) -> Result<Answer, Refusal>
     requires record_bytes_in_bounds { i + record_bytes ≤ length sheet.now }
     requires takeable { Takeable c axis.old times.old }
     requires noticed { Noticed (half c) f time axis.old times.old }
@@ -49,7 +49,7 @@ pub fn wait_of(
     times: &mut [u64],
     f: u32,
     bounds: &mut [u32],
-) -> Answer
+) -> Result<Answer, Refusal>
     requires readable { Readable c sheet.now i links.old f (record_from sheet.now i).y }
     requires takeable { Takeable c axis.old times.old }
     requires covers { Covers c 0 links.old bounds.old }
@@ -70,7 +70,7 @@ pub fn wait_known_of(
     axis: &mut [u32],
     times: &mut [u64],
     f: u32,
-) -> Answer
+) -> Result<Answer, Refusal>
     requires readable { Readable c sheet.now i links.old f (record_from sheet.now i).y }
     requires takeable { Takeable c axis.old times.old }
     requires roomy { Roomy c links.old (linkage_at c (first_of (half c) axis.old)) (record_from sheet.now i).y }
@@ -90,7 +90,7 @@ pub fn cancel_of(
     axis: &mut [u32],
     times: &mut [u64],
     f: u32,
-) -> Answer
+) -> Result<Answer, Refusal>
     requires readable { Readable c sheet.now i links.now f (record_from sheet.now i).x }
     requires judged { Judged c axis.old }
     ensures { Answers (half c) (cancel_step c (operand_with c true links.now f (record_from sheet.now i).x)
@@ -98,12 +98,6 @@ pub fn cancel_of(
 {
     let process = x_of(c, sheet, i, links, f, true);
     cancel(c, axis, times, process)
-}
-
-fn wide_clause(k: u8) -> u32
-    ensures { result ≡ k }
-{
-    k as u32
 }
 
 // Activate, and again: reactivate.
@@ -117,7 +111,7 @@ pub fn timed_of(
     marks: &[u8],
     f: u32,
     again: bool,
-) -> Answer
+) -> Result<Answer, Refusal>
     requires readable { Readable c sheet.now i links.now f (record_from sheet.now i).x }
     requires readable_2 { Readable c sheet.now i links.now f (record_from sheet.now i).y }
     requires judged { Judged c axis.old }
@@ -128,12 +122,12 @@ pub fn timed_of(
 {
     let x = x_of(c, sheet, i, links, f, true);
     let y = y_of(c, sheet, i, links, f, true);
-    let k = wide_clause(clause_at(sheet, i));
+    let k = clause_at(sheet, i) as u32;
     let t = t_at(sheet, i);
     activate(c, axis, times, marks, again, k, x, y, t)
 }
 
-pub fn accum_of(sheet: &[u8], i: usize, accums: &mut [i64], time: u64) -> Answer
+pub fn accum_of(sheet: &[u8], i: usize, accums: &mut [i64], time: u64) -> Result<Answer, Refusal>
     requires record_bytes_in_bounds { i + record_bytes ≤ length sheet.now }
     requires bound { (1 ≤ (record_from sheet.now i).x) × (3 * (record_from sheet.now i).x ≤ length accums.old) × (time ≤ limit) }
     ensures { record { words = accums.new; answer = result }

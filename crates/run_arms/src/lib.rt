@@ -8,16 +8,15 @@ pub mod reading;
 pub mod set_arms;
 pub mod soon;
 
-ghost use Rattle.std.specs.Prelude.{◌≡◌, ◌+◌, ◌≤◌, ◌<◌, length, set};
+ghost use Rattle.std.specs.Prelude.{Ok, ◌≡◌, ◌+◌, ◌≤◌, ◌<◌, length, set};
 ghost use Rattle.model.specs.Counts.{linkage_at};
 ghost use Rattle.trace.specs.Lines.{put, line_bytes};
 ghost use Rattle.run_laws.specs.StepIs.{Went};
 ghost use Rattle.run_laws.specs.Performed.{unless_refused};
 ghost use Rattle.machine.specs.Run.{line_size};
 
-use model::Counts;
 use model::answer::Answer;
-use ring::wide;
+use model::{Counts, Refusal};
 use run_laws::Effect;
 use trace::put_line;
 
@@ -26,8 +25,7 @@ pub fn place(positions: &mut [u32], f: u32, r: u32)
     requires { f < length positions.old }
     ensures { positions.new ≡ set positions.old f r }
 {
-    let p = wide(f);
-    positions[p] = r;
+    positions[f as usize] = r;
 }
 
 // The line of time, the process at place f and record r goes to byte i.
@@ -60,14 +58,9 @@ pub fn move_on(
 }
 
 // An accepted call means e.
-pub fn unless_refused(a: Answer, e: Effect) -> Effect
-    ensures { result ≡ unless_refused a e }
+pub fn unless_refused(a: Result<Answer, Refusal>, e: Effect) -> Result<Effect, Refusal>
+    ensures { result ≡ unless_refused a (Ok e) }
 {
-    match a {
-        Answer::Done => e,
-        Answer::Linkage(_) => e,
-        Answer::Number(_) => e,
-        Answer::Truth(_) => e,
-        Answer::Refused(q) => Effect::Refused(q),
-    }
+    a?;
+    Ok(e)
 }

@@ -10,7 +10,6 @@ ghost use Rattle.run_laws.specs.Run.{record_got};
 
 use crate::members::member;
 use model::Counts;
-use ring::wide;
 use sheet::records::{CURRENT, next_at, record_offset, x_at, y_at};
 use simulation_axis::{first, time_at};
 
@@ -19,7 +18,7 @@ pub fn place_now(c: Counts, axis: &[u32]) -> u32
     requires { Judged c axis.now }
     ensures { result ≡ first_of (half c) axis.now }
 {
-    first(axis, wide(c.processes) + 2)
+    first(axis, c.processes as usize + 2)
 }
 
 // The time of the notice at a place.
@@ -27,7 +26,7 @@ pub fn time_of(times: &[u64], f: u32) -> u64
     requires { f < length times.now }
     ensures { result ≡ get_or times.now f 0 }
 {
-    time_at(times, wide(f))
+    time_at(times, f as usize)
 }
 
 // Where the process at a place is.
@@ -35,8 +34,7 @@ pub fn record_of(positions: &[u32], f: u32) -> u32
     requires { f < length positions.now }
     ensures { result ≡ get_or positions.now f 0 }
 {
-    let p = wide(f);
-    positions[p]
+    positions[f as usize]
 }
 
 // The same, where the place last is at the record at: a process that stays current needs no read.
@@ -55,10 +53,7 @@ pub fn position(positions: &[u32], f: u32, last: u32, at: u32) -> u32
 pub fn is_end(f: u32, r: u32) -> bool
     ensures { result ≡ (eqb r 0 && eqb f 1) }
 {
-    if r != 0 {
-        return false;
-    }
-    f == 1
+    r == 0 && f == 1
 }
 
 // The next of record r; of the one that stands for finish, 0.
@@ -78,14 +73,13 @@ pub fn operand(c: Counts, links: &[u32], f: u32, v: u32, takes: bool) -> u32
     requires v_value { is_operand c v ≡ true }
     ensures { result ≡ operand_with c takes links.now f v }
 {
-    if wide(v) <= c.total() {
+    if v as usize <= c.total() {
         return v;
     }
     if v == CURRENT {
         return c.heads + f;
     }
-    let h = wide(v - CURRENT);
-    member(c, links, h, takes)
+    member(c, links, (v - CURRENT) as usize, takes)
 }
 
 // What x, and y, stand for in the record whose bytes begin at i.

@@ -11,13 +11,19 @@ ghost use Rattle.run_laws.specs.OnTables.{operand_with};
 ghost use Rattle.run_laws.specs.Needs.{Readable};
 
 use crate::reading::{x_of, y_of};
-use model::Counts;
 use model::answer::Answer;
+use model::{Counts, Refusal};
 use sheet::records::y_at;
 use simset::room::known_room;
 use simset::steps::{clear, follow, into, into_known, out, precede};
 
-pub fn out_of(c: Counts, sheet: &[u8], i: usize, links: &mut [u32], f: u32) -> Answer
+pub fn out_of(
+    c: Counts,
+    sheet: &[u8],
+    i: usize,
+    links: &mut [u32],
+    f: u32,
+) -> Result<Answer, Refusal>
     requires { Readable c sheet.now i links.old f (record_from sheet.now i).x }
     ensures { Moved (total c + 1) (out_step c (operand_with c false links.entry.now f (record_from sheet.now i).x)
         links.entry.now) (record { links = links.exit.now; answer = result }) }
@@ -33,7 +39,7 @@ pub fn follow_of(
     links: &mut [u32],
     f: u32,
     bounds: &mut [u32],
-) -> Answer
+) -> Result<Answer, Refusal>
     requires readable { Readable c sheet.now i links.old f (record_from sheet.now i).x }
     requires readable_2 { Readable c sheet.now i links.old f (record_from sheet.now i).y }
     requires covers { Covers c 0 links.old bounds.old }
@@ -53,7 +59,7 @@ pub fn precede_of(
     links: &mut [u32],
     f: u32,
     bounds: &mut [u32],
-) -> Answer
+) -> Result<Answer, Refusal>
     requires readable { Readable c sheet.now i links.old f (record_from sheet.now i).x }
     requires readable_2 { Readable c sheet.now i links.old f (record_from sheet.now i).y }
     requires covers { Covers c 0 links.old bounds.old }
@@ -73,7 +79,7 @@ pub fn into_of(
     links: &mut [u32],
     f: u32,
     bounds: &mut [u32],
-) -> Answer
+) -> Result<Answer, Refusal>
     requires readable { Readable c sheet.now i links.old f (record_from sheet.now i).x }
     requires readable_2 { Readable c sheet.now i links.old f (record_from sheet.now i).y }
     requires covers { Covers c 0 links.old bounds.old }
@@ -86,7 +92,13 @@ pub fn into_of(
     into(c, links, link, head, bounds)
 }
 
-pub fn clear_of(c: Counts, sheet: &[u8], i: usize, links: &mut [u32], f: u32) -> Answer
+pub fn clear_of(
+    c: Counts,
+    sheet: &[u8],
+    i: usize,
+    links: &mut [u32],
+    f: u32,
+) -> Result<Answer, Refusal>
     requires { Readable c sheet.now i links.old f (record_from sheet.now i).x }
     ensures { Moved (total c + 1) (clear_step c (operand_with c false links.entry.now f (record_from sheet.now i).x)
         links.entry.now) (record { links = links.exit.now; answer = result }) }
@@ -106,7 +118,13 @@ pub fn room_of(c: Counts, sheet: &[u8], i: usize, bounds: &mut [u32]) -> bool
 }
 
 // Into, where room is known.
-pub fn into_known_of(c: Counts, sheet: &[u8], i: usize, links: &mut [u32], f: u32) -> Answer
+pub fn into_known_of(
+    c: Counts,
+    sheet: &[u8],
+    i: usize,
+    links: &mut [u32],
+    f: u32,
+) -> Result<Answer, Refusal>
     requires readable { Readable c sheet.now i links.old f (record_from sheet.now i).x }
     requires roomy { Roomy c links.old (operand_with c false links.old f (record_from sheet.now i).x) (record_from sheet.now i).y }
     ensures { Moved (total c + 1) (into_step c (operand_with c false links.entry.now f (record_from sheet.now i).x)

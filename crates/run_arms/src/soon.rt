@@ -11,7 +11,7 @@ ghost use Rattle.run_laws.specs.Tried.{tried};
 
 use crate::reading::x_of;
 use crate::unless_refused;
-use model::Counts;
+use model::{Counts, Refusal};
 use run_laws::Effect;
 use sheet::records::t_at;
 use simulation::soon::{activate_after, activate_now};
@@ -28,7 +28,7 @@ pub fn direct_of(
     marks: &[u8],
     f: u32,
     time: u64,
-) -> Effect
+) -> Result<Effect, Refusal>
     requires callable { Callable c sheet.now i f (model_of links.now axis.old times.old marks.now) }
     requires noticed { Noticed (half c) f time axis.old times.old }
     requires i_value { ((record_from sheet.now i).operation ≡ 10) × ((record_from sheet.now i).clause ≡ 0) }
@@ -37,9 +37,8 @@ pub fn direct_of(
         (model_of links.now axis.new times.new marks.now) result }
 {
     let x = x_of(c, sheet, i, links, f, false);
-    let ok = process_or_none(c, x);
-    if !ok {
-        return Effect::Apart;
+    if !process_or_none(c, x) {
+        return Ok(Effect::Apart);
     }
     unless_refused(
         activate_now(c, axis, times, marks, f, time, x),
@@ -58,7 +57,7 @@ pub fn delayed_of(
     marks: &[u8],
     f: u32,
     time: u64,
-) -> Effect
+) -> Result<Effect, Refusal>
     requires callable { Callable c sheet.now i f (model_of links.now axis.old times.old marks.now) }
     requires noticed { Noticed (half c) f time axis.old times.old }
     requires i_value { ((record_from sheet.now i).operation ≡ 10) × ((record_from sheet.now i).clause ≡ 2) }
@@ -67,9 +66,8 @@ pub fn delayed_of(
         (model_of links.now axis.new times.new marks.now) result }
 {
     let x = x_of(c, sheet, i, links, f, false);
-    let ok = process_or_none(c, x);
-    if !ok {
-        return Effect::Apart;
+    if !process_or_none(c, x) {
+        return Ok(Effect::Apart);
     }
     let t = t_at(sheet, i);
     unless_refused(

@@ -1,17 +1,14 @@
 // The tables of a fresh run: the fresh model, the sheet's starts, zeros.
 #![tactic(auto)]
 
-ghost use Rattle.std.specs.Prelude.{◌≡◌, ◌+◌, ◌*◌, ◌≤◌, pos, length, replicate};
+ghost use Rattle.std.specs.Prelude.{◌≡◌, ◌+◌, ◌*◌, ◌≤◌, length, Ok};
 ghost use Rattle.sheet.specs.Accepted.{checked};
-ghost use Rattle.sheet.specs.declared.header.Checked.TheVariants.{Accepted};
 ghost use Rattle.sheet.specs.Sheet.{header_bytes};
 ghost use Rattle.run_laws.specs.Run.{lent};
 ghost use Rattle.run_laws.specs.Fresh.{starts_are, filled_for};
 
 use model::Refusal;
-use model::verdict::Verdict;
 use model_fresh::fresh;
-use ring::wide;
 use run_laws::RUN_WORDS;
 use sheet::header::Header;
 use sheet::records::start_at;
@@ -23,21 +20,8 @@ fn fill_starts(sheet: &[u8], processes: u32, positions: &mut [u32])
     ensures { positions.new ≡ starts_are processes sheet.now }
 {
     positions[0] = 0;
-    let n = wide(processes);
-    let mut p = 0;
-    while p < n {
-        p += 1;
+    for p in 1..processes as usize + 1 {
         positions[p] = start_at(sheet, p);
-    }
-}
-
-fn clear_accums(accums: &mut [i64])
-    ensures { accums.new ≡ replicate (length accums.old) (pos 0) }
-{
-    let mut i = 0;
-    while i < accums.len() {
-        accums[i] = 0;
-        i += 1;
     }
 }
 
@@ -51,30 +35,25 @@ pub fn fill(
     marks: &mut [u8],
     positions: &mut [u32],
     accums: &mut [i64],
-) -> Verdict
-    requires { checked sheet.now ≡ Accepted header }
+) -> Result<(), Refusal>
+    requires { checked sheet.now ≡ Ok header }
     ensures { record {
       run = lent links.new axis.new times.new marks.new
           positions.new accums.new;
       answer = result;
     }
-        ≡ filled_for (Accepted header) sheet.now (lent links.old axis.old times.old
+        ≡ filled_for (Ok header) sheet.now (lent links.old axis.old times.old
         marks.old positions.old accums.old) }
 {
     let c = header.counts;
-    if positions.len() != wide(c.processes) + 1 {
-        return Verdict::Refused(Refusal::Size);
+    if positions.len() != c.processes as usize + 1 {
+        return Err(Refusal::Size);
     }
     if accums.len() != RUN_WORDS {
-        return Verdict::Refused(Refusal::Size);
+        return Err(Refusal::Size);
     }
-    let v = fresh(c, links, axis, times, marks);
-    match v {
-        Verdict::Refused(q) => Verdict::Refused(q),
-        Verdict::Fine => {
-            fill_starts(sheet, c.processes, positions);
-            clear_accums(accums);
-            Verdict::Fine
-        }
-    }
+    fresh(c, links, axis, times, marks)?;
+    fill_starts(sheet, c.processes, positions);
+    accums.fill(0);
+    Ok(())
 }

@@ -1,4 +1,5 @@
 -- The judge of positions: its loop, counting down, and its answers.
+use Rattle.std.specs.Prelude.{Ok, Err}
 use Prim.Native.Nat.{ℕ, suc, ◌+◌, ◌-◌, ◌<◌, ◌≤◌}
 use mathlib.Core.Path.{◌≡◌, refl, sym, ap, ◌∙◌}
 use mathlib.Core.Logic.{◌≢◌}
@@ -10,7 +11,6 @@ use lib.ListN.{length, get_or}
 use borrow.Author.Tests.{not-true, not-false}
 use Rattle.model.specs.declared.Counts.{Counts}
 use Rattle.model.specs.declared.Refusal.TheVariants.{Size, Malformed}
-use Rattle.model.specs.declared.verdict.Verdict.TheVariants.{Fine, Refused}
 use Rattle.model_laws.specs.Judge.{positions_fine, positions_judged}
 use Rattle.model_laws.specs.Positions.{judged_length, judged_not, judged_fine}
 use Rattle.model_laws.proofs.Positions.{positions_zero, positions_past, positions_on}
@@ -40,12 +40,12 @@ module _ (R : ℕ) (positions : List ℕ) (p : ℕ) where
 -- ---- the answers, from the tests
 
 module _ (c : Counts) (R : ℕ) (positions : List ℕ) (p : ℕ) (e : p ≡ c.processes) where
-  pub positions_length : length positions ≢ p + 1 → Refused Size ≡ positions_judged c R positions
+  pub positions_length : length positions ≢ p + 1 → Err Size ≡ positions_judged c R positions
   positions_length n = sym (judged_length c R positions (rw e at n))
 
   module _ (l : length positions ≡ p + 1) (ok : Bool) (f : ok ≡ positions_fine R positions p) where
-    pub positions_not : not ok ≡ true → Refused Malformed ≡ positions_judged c R positions
+    pub positions_not : not ok ≡ true → Err Malformed ≡ positions_judged c R positions
     positions_not n = sym (judged_not c R positions (rw e at l) (sym (rw e at f) ∙ not-true ok n))
 
-    pub positions_fine_lem : not ok ≡ false → Fine ≡ positions_judged c R positions
+    pub positions_fine_lem : not ok ≡ false → (Ok tt) ≡ positions_judged c R positions
     positions_fine_lem n = sym (judged_fine c R positions (rw e at l) (sym (rw e at f) ∙ not-false ok n))

@@ -7,10 +7,8 @@ ghost use Rattle.std.specs.Prelude.{◌≡◌};
 ghost use Rattle.run_laws.specs.Run.{lent, run_judged};
 
 use crate::positions::judge_positions;
-use model::verdict::Verdict;
 use model::{Counts, Refusal};
 use model_judge::{judge_tables, lengths_fine};
-use ring::wide;
 use run_laws::{RUN_WORDS, TRACE_LIMIT};
 
 pub fn judge_run(
@@ -23,26 +21,22 @@ pub fn judge_run(
     positions: &[u32],
     accums: &[i64],
     len: usize,
-) -> Verdict
+) -> Result<(), Refusal>
     ensures { result ≡ run_judged c records (lent links.now axis.now times.now marks.now
         positions.now accums.now) len }
 {
-    let sized = lengths_fine(c, links, axis, times, marks);
-    if !sized {
-        return Verdict::Refused(Refusal::Size);
+    if !lengths_fine(c, links, axis, times, marks) {
+        return Err(Refusal::Size);
     }
-    if positions.len() != wide(c.processes) + 1 {
-        return Verdict::Refused(Refusal::Size);
+    if positions.len() != c.processes as usize + 1 {
+        return Err(Refusal::Size);
     }
     if accums.len() != RUN_WORDS {
-        return Verdict::Refused(Refusal::Size);
+        return Err(Refusal::Size);
     }
     if TRACE_LIMIT < len {
-        return Verdict::Refused(Refusal::Size);
+        return Err(Refusal::Size);
     }
-    let tables = judge_tables(c, links, axis, times, marks);
-    match tables {
-        Verdict::Refused(q) => Verdict::Refused(q),
-        Verdict::Fine => judge_positions(c, records, positions),
-    }
+    judge_tables(c, links, axis, times, marks)?;
+    judge_positions(c, records, positions)
 }

@@ -2,35 +2,30 @@
 ghost use Rattle.std.specs.Prelude.{◌≡◌, ◌+◌, length};
 ghost use Rattle.model_laws.specs.Judge.{positions_fine, positions_judged};
 
-use model::verdict::Verdict;
 use model::{Counts, Refusal};
-use ring::wide;
 
 // The positions of p processes in a sheet of `records` records.
 fn positions_fine(positions: &[u32], p: usize, records: u32) -> bool
     requires { length positions.now ≡ p + 1 }
     ensures { result ≡ positions_fine records positions.now p }
 {
-    let mut i = p;
-    while 0 < i {
+    for i in (1..=p).rev() {
         if records < positions[i] {
             return false;
         }
-        i -= 1;
     }
     positions[0] == 0
 }
 
-pub(crate) fn judge_positions(c: Counts, records: u32, positions: &[u32]) -> Verdict
+pub(crate) fn judge_positions(c: Counts, records: u32, positions: &[u32]) -> Result<(), Refusal>
     ensures { result ≡ positions_judged c records positions.now }
 {
-    let p = wide(c.processes);
+    let p = c.processes as usize;
     if positions.len() != p + 1 {
-        return Verdict::Refused(Refusal::Size);
+        return Err(Refusal::Size);
     }
-    let ok = positions_fine(positions, p, records);
-    if !ok {
-        return Verdict::Refused(Refusal::Malformed);
+    if !positions_fine(positions, p, records) {
+        return Err(Refusal::Malformed);
     }
-    Verdict::Fine
+    Ok(())
 }

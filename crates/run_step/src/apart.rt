@@ -1,16 +1,15 @@
 // The calls that are made apart from a stretch of turns: the rarer ones, those that have to count a set, and finish.
-ghost use Rattle.std.specs.Prelude.{◌≡◌, ◌≢◌, true};
+ghost use Rattle.std.specs.Prelude.{◌≡◌, ◌≢◌, true, Ok};
 ghost use Rattle.model_laws.specs.Ready.{Ready};
 ghost use Rattle.model_laws.specs.Tables.{model_of};
 ghost use Rattle.simset_laws.specs.BoundLaws.{Covers, Linking};
 ghost use Rattle.sheet.specs.Sheet.{record_offset, record_from};
 ghost use Rattle.run_laws.specs.Needs.{Callable};
 ghost use Rattle.run_laws.specs.Run.{record_got};
-ghost use Rattle.run_laws.specs.Performed.{verdict_by, goes_to, Leaves, performed};
+ghost use Rattle.run_laws.specs.Performed.{goes_to, Leaves, performed};
 ghost use Rattle.run_laws.specs.Tried.{apart};
 
-use model::Counts;
-use model::verdict::Verdict;
+use model::{Counts, Refusal};
 use run_arms::arms::{cancel_of, timed_of, wait_of};
 use run_arms::set_arms::{clear_of, follow_of, into_of, precede_of};
 use run_arms::unless_refused;
@@ -18,29 +17,13 @@ use run_laws::Effect;
 use sheet::records::{operation_at, record_offset};
 use simulation::steps::{finish, passivate};
 
-// Whether a call was refused.
-pub fn verdict_of(e: Effect) -> Verdict
-    ensures { result ≡ verdict_by e }
-{
-    match e {
-        Effect::Stays => Verdict::Fine,
-        Effect::Jumps(_) => Verdict::Fine,
-        Effect::Moves => Verdict::Fine,
-        Effect::Refused(q) => Verdict::Refused(q),
-        Effect::Apart => Verdict::Fine,
-    }
-}
-
 // Where the process is after an accepted call; next is its record's.
 pub fn goes_to(e: Effect, next: u32) -> u32
-    ensures { result ≡ goes_to e next }
+    ensures { result ≡ goes_to (Ok e) next }
 {
     match e {
-        Effect::Stays => next,
         Effect::Jumps(y) => y,
-        Effect::Moves => next,
-        Effect::Refused(_) => next,
-        Effect::Apart => next,
+        Effect::Stays | Effect::Moves | Effect::Apart => next,
     }
 }
 
@@ -55,7 +38,7 @@ fn apart_at(
     times: &mut [u64],
     marks: &[u8],
     bounds: &mut [u32],
-) -> Effect
+) -> Result<Effect, Refusal>
     requires callable { Callable c sheet.now i f (model_of links.old axis.old times.old marks.now) }
     requires i_value { apart (record_from sheet.now i) ≡ true }
     requires covers { Covers c 0 links.old bounds.old }
@@ -94,7 +77,7 @@ pub fn perform_apart(
     times: &mut [u64],
     marks: &mut [u8],
     bounds: &mut [u32],
-) -> Effect
+) -> Result<Effect, Refusal>
     requires callable { r ≢ 0 → Callable c sheet.now (record_offset c.processes r) f
         (model_of links.old axis.old times.old marks.old) }
     requires ready { Ready c (model_of links.old axis.old times.old marks.old) }

@@ -9,7 +9,6 @@ ghost use Rattle.model_laws.specs.Tables.{model_of};
 ghost use Rattle.simset_laws.specs.BoundLaws.{Covers, Linking};
 
 use model::{Counts, Refusal};
-use ring::wide;
 use run_arms::arms::{accum_of, hold_of, wait_known_of};
 use run_arms::set_arms::{into_known_of, out_of, room_of};
 use run_arms::soon::{delayed_of, direct_of};
@@ -18,21 +17,19 @@ use run_laws::Effect;
 use sheet::records::{clause_at, operation_at, record_offset, x_at, y_at};
 
 // 12: x is a head, or refusal 3; where it is empty, the process goes to y. No operand but a head's number stands for a head.
-fn branch(c: Counts, sheet: &[u8], i: usize, links: &[u32], f: u32) -> Effect
+fn branch(c: Counts, sheet: &[u8], i: usize, links: &[u32], f: u32) -> Result<Effect, Refusal>
     requires readable { Readable c sheet.now i links.now f (record_from sheet.now i).x }
     requires f_nonzero { 0 < f }
     ensures { result ≡ branched c (record_from sheet.now i) f links.now }
 {
     let x = x_at(sheet, i);
-    let ok = c.is_head(x);
-    if !ok {
-        return Effect::Refused(Refusal::Operand);
+    if !c.is_head(x) {
+        return Err(Refusal::Operand);
     }
-    let h = wide(x);
-    if links[h] == x {
-        return Effect::Jumps(y_at(sheet, i));
+    if links[x as usize] == x {
+        return Ok(Effect::Jumps(y_at(sheet, i)));
     }
-    Effect::Stays
+    Ok(Effect::Stays)
 }
 
 // The record whose bytes begin at i: an arm for each operation that is made here.
@@ -48,7 +45,7 @@ fn perform_at(
     marks: &[u8],
     accums: &mut [i64],
     bounds: &mut [u32],
-) -> Effect
+) -> Result<Effect, Refusal>
     requires performable { Performable c sheet.now i f time (model_of links.old axis.old times.old marks.now) accums.old }
     requires covers { Covers c 0 links.old bounds.old }
     ensures result_after { record {
@@ -66,14 +63,14 @@ fn perform_at(
         1 => unless_refused(out_of(c, sheet, i, links, f), Effect::Stays),
         4 => {
             if !room_of(c, sheet, i, bounds) {
-                return Effect::Apart;
+                return Ok(Effect::Apart);
             }
             unless_refused(into_known_of(c, sheet, i, links, f), Effect::Stays)
         }
         6 => unless_refused(hold_of(c, sheet, i, axis, times, f, time), Effect::Moves),
         8 => {
             if !room_of(c, sheet, i, bounds) {
-                return Effect::Apart;
+                return Ok(Effect::Apart);
             }
             unless_refused(
                 wait_known_of(c, sheet, i, links, axis, times, f),
@@ -88,11 +85,11 @@ fn perform_at(
             if k == 0 {
                 return direct_of(c, sheet, i, links, axis, times, marks, f, time);
             }
-            Effect::Apart
+            Ok(Effect::Apart)
         }
         12 => branch(c, sheet, i, links, f),
         13 => unless_refused(accum_of(sheet, i, accums, time), Effect::Stays),
-        _ => Effect::Apart,
+        _ => Ok(Effect::Apart),
     }
 }
 
@@ -109,7 +106,7 @@ pub fn perform(
     marks: &[u8],
     accums: &mut [i64],
     bounds: &mut [u32],
-) -> Effect
+) -> Result<Effect, Refusal>
     requires performable { r ≢ 0 → Performable c sheet.now (record_offset c.processes r) f time
         (model_of links.old axis.old times.old marks.now) accums.old }
     requires covers { Covers c 0 links.old bounds.old }
@@ -124,7 +121,7 @@ pub fn perform(
     ensures covers_2 { Linking c links.old → Covers c 0 links.new bounds.new }
 {
     if r == 0 {
-        return Effect::Apart;
+        return Ok(Effect::Apart);
     }
     let i = record_offset(c.processes, r);
     perform_at(

@@ -54,17 +54,17 @@ pub fn stretch(
         match perform(
             c, sheet, r, f, time, links, axis, times, marks, accums, bounds,
         ) {
-            Effect::Stays => {
+            Ok(Effect::Stays) => {
                 write(c, trace, f, time, r, at);
                 r = next_of(sheet, c.processes, r);
                 at += LINE_BYTES;
             }
-            Effect::Jumps(y) => {
+            Ok(Effect::Jumps(y)) => {
                 write(c, trace, f, time, r, at);
                 r = y;
                 at += LINE_BYTES;
             }
-            Effect::Moves => {
+            Ok(Effect::Moves) => {
                 let next = next_of(sheet, c.processes, r);
                 move_on(c, positions, trace, f, time, r, at, next);
                 let g = place_now(c, axis);
@@ -73,14 +73,14 @@ pub fn stretch(
                 f = g;
                 at += LINE_BYTES;
             }
-            Effect::Apart => {
+            Ok(Effect::Apart) => {
                 place(positions, f, r);
                 return Stretch {
                     at,
                     pause: Pause::Apart,
                 };
             }
-            Effect::Refused(q) => {
+            Err(q) => {
                 place(positions, f, r);
                 return Stretch {
                     at,

@@ -8,12 +8,11 @@ ghost use Rattle.run_laws.specs.Tried.{apart};
 ghost use Rattle.machine.specs.Run.{line_size, trace_limit};
 
 use crate::stretch::stretch;
-use model::Counts;
-use model::verdict::Verdict;
+use model::{Counts, Refusal};
 use run_arms::move_on;
 use run_arms::reading::{is_end, next_of, place_now, record_of, time_of};
 use run_laws::{Pause, Turn};
-use run_step::apart::{goes_to, perform_apart, verdict_of};
+use run_step::apart::{goes_to, perform_apart};
 use simset::room::unknown_bounds;
 use trace::LINE_BYTES;
 
@@ -30,7 +29,7 @@ pub fn turn_apart(
     trace: &mut [u8],
     i: usize,
     bounds: &mut [u32],
-) -> Turn
+) -> Result<Turn, Refusal>
     requires standing { Standing c sheet.now (lent links.old axis.old times.old marks.old positions.old accums.now) }
     requires line_size_in_bounds { i + line_size ≤ length trace.old }
     requires accums_value { apart (record_got c.processes sheet.now
@@ -49,18 +48,13 @@ pub fn turn_apart(
     let f = place_now(c, axis);
     let r = record_of(positions, f);
     if is_end(f, r) {
-        return Turn::Finished;
+        return Ok(Turn::Finished);
     }
     let time = time_of(times, f);
-    let e = perform_apart(c, sheet, r, f, links, axis, times, marks, bounds);
-    match verdict_of(e) {
-        Verdict::Refused(q) => Turn::Refused(q),
-        Verdict::Fine => {
-            let next = goes_to(e, next_of(sheet, c.processes, r));
-            move_on(c, positions, trace, f, time, r, i, next);
-            Turn::Made
-        }
-    }
+    let e = perform_apart(c, sheet, r, f, links, axis, times, marks, bounds)?;
+    let next = goes_to(e, next_of(sheet, c.processes, r));
+    move_on(c, positions, trace, f, time, r, i, next);
+    Ok(Turn::Made)
 }
 
 // A turn whose call may be any; byte i is behind whole lines, and there is room for one more: a stretch of one line, and a turn apart where
@@ -76,7 +70,7 @@ pub fn turn(
     accums: &mut [i64],
     trace: &mut [u8],
     i: usize,
-) -> Turn
+) -> Result<Turn, Refusal>
     requires standing { Standing c sheet.now (lent links.old axis.old times.old marks.old positions.old accums.old) }
     requires trace_len_bound { length trace.old ≤ trace_limit }
     requires i_value { i ≡ line_size * (i / line_size) }
@@ -105,10 +99,9 @@ pub fn turn(
         i + LINE_BYTES,
         &mut bounds,
     );
-    let pause = s.pause;
-    match pause {
-        Pause::Full => Turn::Made,
-        Pause::Refused(q) => Turn::Refused(q),
+    match s.pause {
+        Pause::Full => Ok(Turn::Made),
+        Pause::Refused(q) => Err(q),
         Pause::Apart => turn_apart(
             c,
             sheet,

@@ -59,8 +59,7 @@ pub fn turns(
             &mut bounds,
         );
         at = s.at;
-        let pause = s.pause;
-        match pause {
+        match s.pause {
             Pause::Full => {}
             Pause::Refused(q) => {
                 return Ran {
@@ -81,19 +80,19 @@ pub fn turns(
                 at,
                 &mut bounds,
             ) {
-                Turn::Finished => {
+                Ok(Turn::Finished) => {
                     return Ran {
                         lines: lines_in(at),
                         end: End::Finished,
                     };
                 }
-                Turn::Refused(q) => {
+                Err(q) => {
                     return Ran {
                         lines: lines_in(at),
                         end: End::Refused(q),
                     };
                 }
-                Turn::Made => {
+                Ok(Turn::Made) => {
                     at += LINE_BYTES;
                 }
             },

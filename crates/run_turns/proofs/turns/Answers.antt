@@ -1,3 +1,4 @@
+use Rattle.std.specs.Prelude.{Ok}
 use mathlib.Core.Path.{refl, sym, ap, ◌∙◌}
 use mathlib.Core.Bool.{◌||◌}
 use Rattle.simset_laws.proofs.UnknownBounds.{covers_unknown, unknown_length}
@@ -55,23 +56,23 @@ turn_apart-requires-clause-accums_value c = (c.stretch-s.ensures.paused.due (ap 
 pub turn_apart-requires-clause-covers : goal.turn_apart-requires-clause-covers
 turn_apart-requires-clause-covers c = c.stretch-s.ensures.covers_2
 
-pub lines_in-requires-in-Finished : goal.lines_in-requires-in-Finished
-lines_in-requires-in-Finished c = few_after _ _ _ _ _ _ _ _ _ _ c.loop-at.invariant.0 _ _ _ c.stretch-s.ensures.paused
+pub lines_in-requires-in-Ok-Finished : goal.lines_in-requires-in-Ok-Finished
+lines_in-requires-in-Ok-Finished c = few_after _ _ _ _ _ _ _ _ _ _ c.loop-at.invariant.0 _ _ _ c.stretch-s.ensures.paused
 
-pub returns-in-Finished : goal.returns-in-Finished
-returns-in-Finished c = turned_finished _ _ _ _ _ _ _ _ _ (due_on _ _ _ _ _ _ _ _ _ _ c.loop-at.invariant.0 _ _ _ c.stretch-s.ensures.paused (ap is_due c.in-Apart.is)).turning (due_room _ _ _ _ _ _ _ _ _ _ c.loop-at.invariant.0 _ _ _ c.stretch-s.ensures.paused (ap is_due c.in-Apart.is)) _ c.stretch-s.ensures.paused.place _ c.turn_apart.ensures.result_after _ c.lines_in-in-Finished.ensures c.in-Finished.is
+pub returns-in-Ok-Finished : goal.returns-in-Ok-Finished
+returns-in-Ok-Finished c = turned_finished _ _ _ _ _ _ _ _ _ (due_on _ _ _ _ _ _ _ _ _ _ c.loop-at.invariant.0 _ _ _ c.stretch-s.ensures.paused (ap is_due c.in-Apart.is)).turning (due_room _ _ _ _ _ _ _ _ _ _ c.loop-at.invariant.0 _ _ _ c.stretch-s.ensures.paused (ap is_due c.in-Apart.is)) _ c.stretch-s.ensures.paused.place _ c.turn_apart.ensures.result_after _ c.lines_in-in-Ok-Finished.ensures (c.in-Ok-Finished.is ∙ ap Ok c.in-Ok-Finished.field-0-is)
 
-pub lines_in-requires-in-Refused-turn_apart : goal.lines_in-requires-in-Refused-turn_apart
-lines_in-requires-in-Refused-turn_apart c = few_after _ _ _ _ _ _ _ _ _ _ c.loop-at.invariant.0 _ _ _ c.stretch-s.ensures.paused
+pub lines_in-requires-in-Err : goal.lines_in-requires-in-Err
+lines_in-requires-in-Err c = few_after _ _ _ _ _ _ _ _ _ _ c.loop-at.invariant.0 _ _ _ c.stretch-s.ensures.paused
 
-pub returns-in-Refused-turn_apart : goal.returns-in-Refused-turn_apart
-returns-in-Refused-turn_apart c = turned_refused _ _ _ _ _ _ _ _ _ (due_on _ _ _ _ _ _ _ _ _ _ c.loop-at.invariant.0 _ _ _ c.stretch-s.ensures.paused (ap is_due c.in-Apart.is)).turning (due_room _ _ _ _ _ _ _ _ _ _ c.loop-at.invariant.0 _ _ _ c.stretch-s.ensures.paused (ap is_due c.in-Apart.is)) _ c.stretch-s.ensures.paused.place _ c.turn_apart.ensures.result_after _ c.lines_in-in-Refused-turn_apart.ensures _ c.in-Refused-turn_apart.is
+pub returns-in-Err : goal.returns-in-Err
+returns-in-Err c = turned_refused _ _ _ _ _ _ _ _ _ (due_on _ _ _ _ _ _ _ _ _ _ c.loop-at.invariant.0 _ _ _ c.stretch-s.ensures.paused (ap is_due c.in-Apart.is)).turning (due_room _ _ _ _ _ _ _ _ _ _ c.loop-at.invariant.0 _ _ _ c.stretch-s.ensures.paused (ap is_due c.in-Apart.is)) _ c.stretch-s.ensures.paused.place _ c.turn_apart.ensures.result_after _ c.lines_in-in-Err.ensures _ c.in-Err.is
 
 pub loop-at-smaller : goal.loop-at-smaller
 loop-at-smaller c = omega (arith, c.stretch-s.ensures.paused.more, due_room _ _ _ _ _ _ _ _ _ _ c.loop-at.invariant.0 _ _ _ c.stretch-s.ensures.paused (ap is_due c.in-Apart.is))
 
 pub loop-at-preserved : goal.loop-at-preserved
-loop-at-preserved c = (counting_on _ _ _ _ _ _ _ _ _ _ (due_on _ _ _ _ _ _ _ _ _ _ c.loop-at.invariant.0 _ _ _ c.stretch-s.ensures.paused (ap is_due c.in-Apart.is)) _ _ (turned_made _ _ _ _ _ _ _ _ _ (due_on _ _ _ _ _ _ _ _ _ _ c.loop-at.invariant.0 _ _ _ c.stretch-s.ensures.paused (ap is_due c.in-Apart.is)).turning (due_room _ _ _ _ _ _ _ _ _ _ c.loop-at.invariant.0 _ _ _ c.stretch-s.ensures.paused (ap is_due c.in-Apart.is)) _ c.stretch-s.ensures.paused.place _ c.turn_apart.ensures.result_after c.in-Made.is c.turn_apart.auto.trace), c.turn_apart.ensures.covers_2, c.turn_apart.auto.bounds ∙ c.stretch-s.auto.bounds ∙ c.loop-at.invariant.2)
+loop-at-preserved c = (counting_on _ _ _ _ _ _ _ _ _ _ (due_on _ _ _ _ _ _ _ _ _ _ c.loop-at.invariant.0 _ _ _ c.stretch-s.ensures.paused (ap is_due c.in-Apart.is)) _ _ (turned_made _ _ _ _ _ _ _ _ _ (due_on _ _ _ _ _ _ _ _ _ _ c.loop-at.invariant.0 _ _ _ c.stretch-s.ensures.paused (ap is_due c.in-Apart.is)).turning (due_room _ _ _ _ _ _ _ _ _ _ c.loop-at.invariant.0 _ _ _ c.stretch-s.ensures.paused (ap is_due c.in-Apart.is)) _ c.stretch-s.ensures.paused.place _ c.turn_apart.ensures.result_after (c.in-Ok-Made.is ∙ ap Ok c.in-Ok-Made.field-0-is) c.turn_apart.auto.trace), c.turn_apart.ensures.covers_2, c.turn_apart.auto.bounds ∙ c.stretch-s.auto.bounds ∙ c.loop-at.invariant.2)
 
 pub place_now-f-requires : goal.place_now-f-requires
 place_now-f-requires c = its_judged _ _ _ c.loop-at.invariant.0.turning.stands

@@ -1,10 +1,6 @@
 use mathlib.Core.Path.{sym, ◌∙◌}
-use native.Mathlib.Omega.{arith}
-use Rattle.simset_laws.proofs.Walk.{walk_start, walk_found, walk_none, walk_on, walk_out}
+use Rattle.simset_laws.proofs.Walk.{walk_found, walk_none, walk_on, walk_out}
 use Rattle.run_arms.proofs.members.walk.Goals as goal
-
-pub loop-k-init : goal.loop-k-init
-loop-k-init c = walk_start _ _ _ _ _ c.requires.v_bound _ (omega (arith, c.total-k.ensures))
 
 pub returns-then-ok : goal.returns-then-ok
 returns-then-ok c = walk_found _ _ _ _ _ _ _ c.loop-k.invariant c.loop-k-test.true (sym c.is_process-ok.ensures ∙ c.if-ok.true)

@@ -5,17 +5,5 @@ use Rattle.run_laws.proofs.ReadsLaws.{operand_low}
 use native.Mathlib.Omega.{arith}
 use Rattle.run_arms.proofs.set_arms.into_known_of.Goals as goal
 
-pub x_of-x-requires : goal.x_of-x-requires
-x_of-x-requires c = c.requires.readable
-
-pub y_at-y-requires : goal.y_at-y-requires
-y_at-y-requires c = c.requires.readable.inside
-
-pub into_known-requires-clause-sound : goal.into_known-requires-clause-sound
-into_known-requires-clause-sound c = c.requires.readable.resolvable.sound
-
-pub into_known-requires-clause-roomy : goal.into_known-requires-clause-roomy
-into_known-requires-clause-roomy c = rw (c.x_of-x.ensures, c.y_at-y.ensures) c.requires.roomy
-
 pub returns : goal.returns
 returns c = moved_of _ (into_step c.args.c) _ _ _ _ _ _ c.x_of-x.ensures (c.y_at-y.ensures ∙ operand_low c.args.c _ _ _ c.requires.readable.resolvable _ (omega (arith, c.requires.roomy.head))) c.into_known.ensures

@@ -1,21 +1,9 @@
-use mathlib.Core.Path.{sym}
-use native.Mathlib.Omega.{arith}
-use Rattle.run_laws.specs.Performing.{judged, x_readable}
 use Rattle.run_laws.proofs.Soon.{soon_left, soon_direct}
 use Rattle.std.proofs.Common.{ap, not}
 use Rattle.run_arms.proofs.soon.direct_of.Goals as goal
 
-pub x_of-x-requires : goal.x_of-x-requires
-x_of-x-requires c = x_readable _ _ _ _ _ c.requires.callable 10 (sym c.requires.i_value.0) (λ z. omega arith)
-
-pub returns-then-not-ok : goal.returns-then-not-ok
-returns-then-not-ok c = λ known w. soon_left _ _ _ _ _ _ _ w known c.requires.i_value.0 _ c.x_of-x.ensures _ c.process_or_none-ok.ensures (ap not c.if-not-ok.true)
-
-pub activate_now-requires-clause-judged : goal.activate_now-requires-clause-judged
-activate_now-requires-clause-judged c = judged _ _ _ _ _ c.requires.callable
-
-pub activate_now-requires-clause-noticed : goal.activate_now-requires-clause-noticed
-activate_now-requires-clause-noticed c = c.requires.noticed
+pub returns-then-not-process_or_none : goal.returns-then-not-process_or_none
+returns-then-not-process_or_none c = λ known w. soon_left _ _ _ _ _ _ _ w known c.requires.i_value.0 _ c.x_of-x.ensures _ c.process_or_none.ensures (ap not c.if-not-process_or_none.true)
 
 pub returns : goal.returns
-returns c = λ known w. soon_direct _ _ _ _ _ _ _ w known c.requires.i_value.0 _ c.x_of-x.ensures _ c.process_or_none-ok.ensures (ap not c.if-not-ok.false) _ _ _ _ c.unless_refused.ensures c.requires.i_value.1 c.activate_now.ensures
+returns c = λ known w. soon_direct _ _ _ _ _ _ _ w known c.requires.i_value.0 _ c.x_of-x.ensures _ c.process_or_none.ensures (ap not c.if-not-process_or_none.false) _ _ _ _ c.unless_refused.ensures c.requires.i_value.1 c.activate_now.ensures

@@ -1,63 +1,12 @@
 use Rattle.simset_laws.proofs.Entering.{covers_clear_step}
 use Rattle.run_laws.proofs.Arms.{arm_2, arm_3, arm_4, arm_5, arm_7, arm_8, arm_9, arm_timed_as}
 use Rattle.run_laws.specs.Tried.{left_apart}
-use Rattle.run_laws.specs.Performing.{judged, takeable, x_readable, y_readable, some, most}
+use Rattle.run_laws.specs.Performing.{x_readable, y_readable, some, most}
 use mathlib.Core.Path.{sym, ◌∙◌}
 use Rattle.sheet.specs.Sheet.{record_from}
 use borrow.Author.Rules.{rules}
 use native.Mathlib.Omega.{arith}
 use Rattle.run_step.proofs.apart.apart_at.Goals as goal
-
-pub operation_at-op-requires : goal.operation_at-op-requires
-operation_at-op-requires c = c.requires.callable.inside
-
-pub follow_of-requires-clause-readable : goal.follow_of-requires-clause-readable
-follow_of-requires-clause-readable c = x_readable _ _ _ _ _ c.requires.callable _ c.operation_at-op.ensures (λ z. omega (arith, c.in-2.is))
-
-pub follow_of-requires-clause-readable_2 : goal.follow_of-requires-clause-readable_2
-follow_of-requires-clause-readable_2 c = y_readable _ _ _ _ _ c.requires.callable _ c.operation_at-op.ensures (λ z. omega (arith, c.in-2.is))
-
-pub follow_of-requires-clause-covers : goal.follow_of-requires-clause-covers
-follow_of-requires-clause-covers c = c.requires.covers
-
-pub precede_of-requires-clause-readable : goal.precede_of-requires-clause-readable
-precede_of-requires-clause-readable c = x_readable _ _ _ _ _ c.requires.callable _ c.operation_at-op.ensures (λ z. omega (arith, c.in-3.is))
-
-pub precede_of-requires-clause-readable_2 : goal.precede_of-requires-clause-readable_2
-precede_of-requires-clause-readable_2 c = y_readable _ _ _ _ _ c.requires.callable _ c.operation_at-op.ensures (λ z. omega (arith, c.in-3.is))
-
-pub precede_of-requires-clause-covers : goal.precede_of-requires-clause-covers
-precede_of-requires-clause-covers c = c.requires.covers
-
-pub into_of-requires-clause-readable : goal.into_of-requires-clause-readable
-into_of-requires-clause-readable c = x_readable _ _ _ _ _ c.requires.callable _ c.operation_at-op.ensures (λ z. omega (arith, c.in-4.is))
-
-pub into_of-requires-clause-readable_2 : goal.into_of-requires-clause-readable_2
-into_of-requires-clause-readable_2 c = y_readable _ _ _ _ _ c.requires.callable _ c.operation_at-op.ensures (λ z. omega (arith, c.in-4.is))
-
-pub into_of-requires-clause-covers : goal.into_of-requires-clause-covers
-into_of-requires-clause-covers c = c.requires.covers
-
-pub clear_of-requires : goal.clear_of-requires
-clear_of-requires c = x_readable _ _ _ _ _ c.requires.callable _ c.operation_at-op.ensures (λ z. omega (arith, c.in-5.is))
-
-pub passivate-requires : goal.passivate-requires
-passivate-requires c = takeable _ _ _ _ _ c.requires.callable
-
-pub wait_of-requires-clause-readable : goal.wait_of-requires-clause-readable
-wait_of-requires-clause-readable c = y_readable _ _ _ _ _ c.requires.callable _ c.operation_at-op.ensures (λ z. omega (arith, c.in-8.is))
-
-pub wait_of-requires-clause-takeable : goal.wait_of-requires-clause-takeable
-wait_of-requires-clause-takeable c = takeable _ _ _ _ _ c.requires.callable
-
-pub wait_of-requires-clause-covers : goal.wait_of-requires-clause-covers
-wait_of-requires-clause-covers c = c.requires.covers
-
-pub cancel_of-requires-clause-readable : goal.cancel_of-requires-clause-readable
-cancel_of-requires-clause-readable c = x_readable _ _ _ _ _ c.requires.callable _ c.operation_at-op.ensures (λ z. omega (arith, c.in-9.is))
-
-pub cancel_of-requires-clause-judged : goal.cancel_of-requires-clause-judged
-cancel_of-requires-clause-judged c = judged _ _ _ _ _ c.requires.callable
 
 pub timed_of-requires-clause-readable : goal.timed_of-requires-clause-readable
 timed_of-requires-clause-readable c = x_readable _ _ _ _ _ c.requires.callable _ c.operation_at-op.ensures (λ z. omega (arith, z, (left_apart (record_from c.args.sheet.now c.args.i) _ c.operation_at-op.ensures c.requires.i_value (some _ _ _ _ _ c.requires.callable _ c.operation_at-op.ensures) (most _ _ _ _ _ c.requires.callable _ c.operation_at-op.ensures) (search rules) (search rules) (search rules) (search rules) (search rules) (search rules) (search rules)).1))
@@ -65,26 +14,14 @@ timed_of-requires-clause-readable c = x_readable _ _ _ _ _ c.requires.callable _
 pub timed_of-requires-clause-readable_2 : goal.timed_of-requires-clause-readable_2
 timed_of-requires-clause-readable_2 c = y_readable _ _ _ _ _ c.requires.callable _ c.operation_at-op.ensures (λ z. omega (arith, z, (left_apart (record_from c.args.sheet.now c.args.i) _ c.operation_at-op.ensures c.requires.i_value (some _ _ _ _ _ c.requires.callable _ c.operation_at-op.ensures) (most _ _ _ _ _ c.requires.callable _ c.operation_at-op.ensures) (search rules) (search rules) (search rules) (search rules) (search rules) (search rules) (search rules)).1))
 
-pub timed_of-requires-clause-judged : goal.timed_of-requires-clause-judged
-timed_of-requires-clause-judged c = judged _ _ _ _ _ c.requires.callable
-
 pub returns-in-2-clause-leaves : goal.returns-in-2-clause-leaves
 returns-in-2-clause-leaves c = λ w. arm_2 c.args.c (record_from c.args.sheet.now c.args.i) c.args.f c.args.links.now c.args.axis.now c.args.times.now c.args.marks.now w _ _ _ c.unless_refused.ensures (sym c.operation_at-op.ensures ∙ c.in-2.is) c.follow_of.ensures.moved
-
-pub returns-in-2-clause-covers_2 : goal.returns-in-2-clause-covers_2
-returns-in-2-clause-covers_2 c = c.follow_of.ensures.covers
 
 pub returns-in-3-clause-leaves : goal.returns-in-3-clause-leaves
 returns-in-3-clause-leaves c = λ w. arm_3 c.args.c (record_from c.args.sheet.now c.args.i) c.args.f c.args.links.now c.args.axis.now c.args.times.now c.args.marks.now w _ _ _ c.unless_refused-in-3.ensures (sym c.operation_at-op.ensures ∙ c.in-3.is) c.precede_of.ensures.moved
 
-pub returns-in-3-clause-covers_2 : goal.returns-in-3-clause-covers_2
-returns-in-3-clause-covers_2 c = c.precede_of.ensures.covers
-
 pub returns-in-4-clause-leaves : goal.returns-in-4-clause-leaves
 returns-in-4-clause-leaves c = λ w. arm_4 c.args.c (record_from c.args.sheet.now c.args.i) c.args.f c.args.links.now c.args.axis.now c.args.times.now c.args.marks.now w _ _ _ c.unless_refused-in-4.ensures (sym c.operation_at-op.ensures ∙ c.in-4.is) c.into_of.ensures.moved
-
-pub returns-in-4-clause-covers_2 : goal.returns-in-4-clause-covers_2
-returns-in-4-clause-covers_2 c = c.into_of.ensures.covers
 
 pub returns-in-5-clause-leaves : goal.returns-in-5-clause-leaves
 returns-in-5-clause-leaves c = λ w. arm_5 c.args.c (record_from c.args.sheet.now c.args.i) c.args.f c.args.links.now c.args.axis.now c.args.times.now c.args.marks.now w _ _ _ c.unless_refused-in-5.ensures (sym c.operation_at-op.ensures ∙ c.in-5.is) c.clear_of.ensures
@@ -95,23 +32,11 @@ returns-in-5-clause-covers_2 c = λ w. covers_clear_step _ _ _ c.requires.covers
 pub returns-in-7-clause-leaves : goal.returns-in-7-clause-leaves
 returns-in-7-clause-leaves c = λ w. arm_7 c.args.c (record_from c.args.sheet.now c.args.i) c.args.f c.args.links.now c.args.axis.now c.args.times.now c.args.marks.now w _ _ _ _ c.unless_refused-in-7.ensures (sym c.operation_at-op.ensures ∙ c.in-7.is) c.passivate.ensures
 
-pub returns-in-7-clause-covers_2 : goal.returns-in-7-clause-covers_2
-returns-in-7-clause-covers_2 c = λ w. c.requires.covers
-
 pub returns-in-8-clause-leaves : goal.returns-in-8-clause-leaves
 returns-in-8-clause-leaves c = λ w. arm_8 c.args.c (record_from c.args.sheet.now c.args.i) c.args.f c.args.links.now c.args.axis.now c.args.times.now c.args.marks.now w _ _ _ _ c.unless_refused-in-8.ensures _ (sym c.operation_at-op.ensures ∙ c.in-8.is) c.wait_of.ensures.waited
-
-pub returns-in-8-clause-covers_2 : goal.returns-in-8-clause-covers_2
-returns-in-8-clause-covers_2 c = c.wait_of.ensures.covers
 
 pub returns-in-9-clause-leaves : goal.returns-in-9-clause-leaves
 returns-in-9-clause-leaves c = λ w. arm_9 c.args.c (record_from c.args.sheet.now c.args.i) c.args.f c.args.links.now c.args.axis.now c.args.times.now c.args.marks.now w _ _ _ _ c.unless_refused-in-9.ensures (sym c.operation_at-op.ensures ∙ c.in-9.is) c.cancel_of.ensures
 
-pub returns-in-9-clause-covers_2 : goal.returns-in-9-clause-covers_2
-returns-in-9-clause-covers_2 c = λ w. c.requires.covers
-
 pub returns-in_default-clause-leaves : goal.returns-in_default-clause-leaves
 returns-in_default-clause-leaves c = λ w. arm_timed_as c.args.c (record_from c.args.sheet.now c.args.i) c.args.f c.args.links.now c.args.axis.now c.args.times.now c.args.marks.now w _ _ _ _ c.unless_refused-in_default.ensures _ c.operation_at-op.ensures (omega (arith, c.operation_at-op.ensures, (left_apart (record_from c.args.sheet.now c.args.i) _ c.operation_at-op.ensures c.requires.i_value (some _ _ _ _ _ c.requires.callable _ c.operation_at-op.ensures) (most _ _ _ _ _ c.requires.callable _ c.operation_at-op.ensures) (search rules) (search rules) (search rules) (search rules) (search rules) (search rules) (search rules)).0)) (omega (arith, c.operation_at-op.ensures, (left_apart (record_from c.args.sheet.now c.args.i) _ c.operation_at-op.ensures c.requires.i_value (some _ _ _ _ _ c.requires.callable _ c.operation_at-op.ensures) (most _ _ _ _ _ c.requires.callable _ c.operation_at-op.ensures) (search rules) (search rules) (search rules) (search rules) (search rules) (search rules) (search rules)).1)) c.timed_of.ensures
-
-pub returns-in_default-clause-covers_2 : goal.returns-in_default-clause-covers_2
-returns-in_default-clause-covers_2 c = λ w. c.requires.covers

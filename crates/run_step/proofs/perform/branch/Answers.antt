@@ -6,17 +6,11 @@ use native.Mathlib.Omega.{arith}
 use Rattle.std.proofs.Common.{ap, not}
 use Rattle.run_step.proofs.perform.branch.Goals as goal
 
-pub x_at-x-requires : goal.x_at-x-requires
-x_at-x-requires c = c.requires.readable.inside
+pub returns-then-not-is_head : goal.returns-then-not-is_head
+returns-then-not-is_head c = branch_3 _ (record_from c.args.sheet.now c.args.i) _ _ _ refl (no_head _ _ _ _ c.requires.readable.resolvable c.requires.readable.operand c.requires.f_nonzero (rw c.x_at-x.ensures at (failed _ _ c.is_head.ensures (ap not c.if-not-is_head.true))))
 
-pub returns-then-not-ok : goal.returns-then-not-ok
-returns-then-not-ok c = branch_3 _ (record_from c.args.sheet.now c.args.i) _ _ _ refl (no_head _ _ _ _ c.requires.readable.resolvable c.requires.readable.operand c.requires.f_nonzero (rw c.x_at-x.ensures at (failed _ _ c.is_head-ok.ensures (ap not c.if-not-ok.true))))
-
-pub y_at-requires : goal.y_at-requires
-y_at-requires c = c.requires.readable.inside
-
-pub returns-then-links-h : goal.returns-then-links-h
-returns-then-links-h c = branch_to _ (record_from c.args.sheet.now c.args.i) _ _ _ (c.x_at-x.ensures ∙ operand_low _ _ _ _ c.requires.readable.resolvable _ (omega (arith, c.x_at-x.ensures, head_in c.args.c c.x_at-x.result (passed c.is_head-ok.result _ c.is_head-ok.ensures (ap not c.if-not-ok.false))))) (passed _ _ c.is_head-ok.ensures (ap not c.if-not-ok.false)) _ c.wide-h.ensures c.if-links-h.true _ c.y_at.ensures
+pub returns-then-links-x : goal.returns-then-links-x
+returns-then-links-x c = branch_to _ (record_from c.args.sheet.now c.args.i) _ _ _ (c.x_at-x.ensures ∙ operand_low _ _ _ _ c.requires.readable.resolvable _ (omega (arith, c.x_at-x.ensures, head_in c.args.c c.x_at-x.result (passed c.is_head.result _ c.is_head.ensures (ap not c.if-not-is_head.false))))) (passed _ _ c.is_head.ensures (ap not c.if-not-is_head.false)) _ refl c.if-links-x.true _ c.y_at.ensures
 
 pub returns : goal.returns
-returns c = branch_on _ (record_from c.args.sheet.now c.args.i) _ _ _ (c.x_at-x.ensures ∙ operand_low _ _ _ _ c.requires.readable.resolvable _ (omega (arith, c.x_at-x.ensures, head_in c.args.c c.x_at-x.result (passed c.is_head-ok.result _ c.is_head-ok.ensures (ap not c.if-not-ok.false))))) (passed _ _ c.is_head-ok.ensures (ap not c.if-not-ok.false)) _ c.wide-h.ensures c.if-links-h.false
+returns c = branch_on _ (record_from c.args.sheet.now c.args.i) _ _ _ (c.x_at-x.ensures ∙ operand_low _ _ _ _ c.requires.readable.resolvable _ (omega (arith, c.x_at-x.ensures, head_in c.args.c c.x_at-x.result (passed c.is_head.result _ c.is_head.ensures (ap not c.if-not-is_head.false))))) (passed _ _ c.is_head.ensures (ap not c.if-not-is_head.false)) _ refl c.if-links-x.false

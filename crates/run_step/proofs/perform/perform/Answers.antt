@@ -4,26 +4,10 @@ use Rattle.run_laws.specs.Reads.{got_end}
 use Rattle.run_laws.specs.Run.{record_got}
 use Rattle.run_laws.proofs.Tried.{left_0, tried_not}
 use Rattle.run_laws.specs.Performing.{tried_at}
-use native.Mathlib.Omega.{arith}
 use Rattle.run_step.proofs.perform.perform.Goals as goal
 
 pub returns-then-r-eq0-clause-result_after : goal.returns-then-r-eq0-clause-result_after
 returns-then-r-eq0-clause-result_after c = tried_not _ _ _ _ _ _ (left_0 _ (record_got c.args.c.processes c.args.sheet.now c.args.r) _ _ _ (ap (λ (q : Record). q.operation) (sym (got_end _ _ _ c.if-r-eq0.true))))
 
-pub returns-then-r-eq0-clause-covers_2 : goal.returns-then-r-eq0-clause-covers_2
-returns-then-r-eq0-clause-covers_2 c = λ w. c.requires.covers
-
-pub record_offset-i-requires : goal.record_offset-i-requires
-record_offset-i-requires c = omega (arith, c.if-r-eq0.false)
-
-pub perform_at-requires-clause-performable : goal.perform_at-requires-clause-performable
-perform_at-requires-clause-performable c = rw c.record_offset-i.ensures (c.requires.performable c.if-r-eq0.false)
-
-pub perform_at-requires-clause-covers : goal.perform_at-requires-clause-covers
-perform_at-requires-clause-covers c = c.requires.covers
-
 pub returns-clause-result_after : goal.returns-clause-result_after
 returns-clause-result_after c = tried_at _ _ _ _ c.if-r-eq0.false c.record_offset-i.ensures _ _ _ _ c.args.bounds.now c.perform_at.ensures.result_after
-
-pub returns-clause-covers_2 : goal.returns-clause-covers_2
-returns-clause-covers_2 c = c.perform_at.ensures.covers_2

@@ -1,3 +1,4 @@
+use Rattle.std.specs.Prelude.{Ok}
 use mathlib.Core.Path.{refl, ap, ◌∙◌}
 use Rattle.run_laws.specs.declared.Effect.TheVariants.{Stays, Moves}
 use Rattle.run_laws.specs.Tried.{is_apart}
@@ -36,23 +37,23 @@ write-requires-clause-line_size_in_bounds c = line_in_lem _ _ _ _ _ _ _ _ _ _ c.
 pub next_of-r-requires : goal.next_of-r-requires
 next_of-r-requires c = λ z. (its_call_lem _ _ _ _ _ _ _ _ _ _ _ _ _ _ c.loop-at.invariant.0 z).callable.inside
 
-pub loop-at-smaller-in-Stays : goal.loop-at-smaller-in-Stays
-loop-at-smaller-in-Stays c = omega (arith, c.loop-at-test.true)
+pub loop-at-smaller-in-Ok-Stays : goal.loop-at-smaller-in-Ok-Stays
+loop-at-smaller-in-Ok-Stays c = omega (arith, c.loop-at-test.true)
 
-pub loop-at-preserved-in-Stays : goal.loop-at-preserved-in-Stays
-loop-at-preserved-in-Stays c = (stays _ _ _ _ _ _ _ _ _ _ _ _ _ _ c.loop-at.invariant.0 c.loop-at-test.true _ _ c.perform.ensures.result_after (ap is_apart c.in-Stays.is) _ (to_next _ _ _ Stays refl c.in-Stays.is c.next_of-r.ensures) _ c.write.auto.trace (ap stayed c.in-Stays.is) c.write.ensures, c.perform.ensures.covers_2 (its_linking _ _ _ _ _ _ _ _ _ _ _ _ _ _ c.loop-at.invariant.0), c.perform.auto.bounds ∙ c.loop-at.invariant.2)
+pub loop-at-preserved-in-Ok-Stays : goal.loop-at-preserved-in-Ok-Stays
+loop-at-preserved-in-Ok-Stays c = (stays _ _ _ _ _ _ _ _ _ _ _ _ _ _ c.loop-at.invariant.0 c.loop-at-test.true _ _ c.perform.ensures.result_after (ap is_apart (c.in-Ok-Stays.is ∙ ap Ok c.in-Ok-Stays.field-0-is)) _ (to_next _ _ _ (Ok Stays) refl (c.in-Ok-Stays.is ∙ ap Ok c.in-Ok-Stays.field-0-is) c.next_of-r.ensures) _ c.write.auto.trace (ap stayed (c.in-Ok-Stays.is ∙ ap Ok c.in-Ok-Stays.field-0-is)) c.write.ensures, c.perform.ensures.covers_2 (its_linking _ _ _ _ _ _ _ _ _ _ _ _ _ _ c.loop-at.invariant.0), c.perform.auto.bounds ∙ c.loop-at.invariant.2)
 
-pub write-requires-in-Jumps-clause-f_bound : goal.write-requires-in-Jumps-clause-f_bound
-write-requires-in-Jumps-clause-f_bound c = its_number _ _ _ _ _ _ _ _ _ _ _ _ _ _ c.loop-at.invariant.0
+pub write-requires-in-Ok-Jumps-clause-f_bound : goal.write-requires-in-Ok-Jumps-clause-f_bound
+write-requires-in-Ok-Jumps-clause-f_bound c = its_number _ _ _ _ _ _ _ _ _ _ _ _ _ _ c.loop-at.invariant.0
 
-pub write-requires-in-Jumps-clause-line_size_in_bounds : goal.write-requires-in-Jumps-clause-line_size_in_bounds
-write-requires-in-Jumps-clause-line_size_in_bounds c = line_in_lem _ _ _ _ _ _ _ _ _ _ c.loop-at.invariant.0.counting c.loop-at-test.true
+pub write-requires-in-Ok-Jumps-clause-line_size_in_bounds : goal.write-requires-in-Ok-Jumps-clause-line_size_in_bounds
+write-requires-in-Ok-Jumps-clause-line_size_in_bounds c = line_in_lem _ _ _ _ _ _ _ _ _ _ c.loop-at.invariant.0.counting c.loop-at-test.true
 
-pub loop-at-smaller-in-Jumps : goal.loop-at-smaller-in-Jumps
-loop-at-smaller-in-Jumps c = omega (arith, c.loop-at-test.true)
+pub loop-at-smaller-in-Ok-Jumps : goal.loop-at-smaller-in-Ok-Jumps
+loop-at-smaller-in-Ok-Jumps c = omega (arith, c.loop-at-test.true)
 
-pub loop-at-preserved-in-Jumps : goal.loop-at-preserved-in-Jumps
-loop-at-preserved-in-Jumps c = (stays _ _ _ _ _ _ _ _ _ _ _ _ _ _ c.loop-at.invariant.0 c.loop-at-test.true _ _ c.perform.ensures.result_after (ap is_apart c.in-Jumps.is) _ (jumps_to _ _ _ c.in-Jumps.is) _ c.write-in-Jumps.auto.trace (ap stayed c.in-Jumps.is) c.write-in-Jumps.ensures, c.perform.ensures.covers_2 (its_linking _ _ _ _ _ _ _ _ _ _ _ _ _ _ c.loop-at.invariant.0), c.perform.auto.bounds ∙ c.loop-at.invariant.2)
+pub loop-at-preserved-in-Ok-Jumps : goal.loop-at-preserved-in-Ok-Jumps
+loop-at-preserved-in-Ok-Jumps c = (stays _ _ _ _ _ _ _ _ _ _ _ _ _ _ c.loop-at.invariant.0 c.loop-at-test.true _ _ c.perform.ensures.result_after (ap is_apart (c.in-Ok-Jumps.is ∙ ap Ok c.in-Ok-Jumps.field-0-is)) _ (jumps_to _ _ _ (c.in-Ok-Jumps.is ∙ ap Ok c.in-Ok-Jumps.field-0-is)) _ c.write-in-Ok-Jumps.auto.trace (ap stayed (c.in-Ok-Jumps.is ∙ ap Ok c.in-Ok-Jumps.field-0-is)) c.write-in-Ok-Jumps.ensures, c.perform.ensures.covers_2 (its_linking _ _ _ _ _ _ _ _ _ _ _ _ _ _ c.loop-at.invariant.0), c.perform.auto.bounds ∙ c.loop-at.invariant.2)
 
 pub next_of-next-requires : goal.next_of-next-requires
 next_of-next-requires c = λ z. (its_call_lem _ _ _ _ _ _ _ _ _ _ _ _ _ _ c.loop-at.invariant.0 z).callable.inside
@@ -67,40 +68,40 @@ pub move_on-requires-clause-line_size_in_bounds : goal.move_on-requires-clause-l
 move_on-requires-clause-line_size_in_bounds c = line_in_lem _ _ _ _ _ _ _ _ _ _ c.loop-at.invariant.0.counting c.loop-at-test.true
 
 pub place_now-g-requires : goal.place_now-g-requires
-place_now-g-requires c = its_judged _ _ _ (stands_on _ _ _ _ _ _ _ _ _ _ _ _ _ _ c.loop-at.invariant.0 c.loop-at-test.true _ _ c.perform.ensures.result_after (ap is_apart c.in-Moves.is) _ (to_next _ _ _ Moves refl c.in-Moves.is c.next_of-next.ensures) _ c.move_on.auto.trace _ c.move_on.ensures)
+place_now-g-requires c = its_judged _ _ _ (stands_on _ _ _ _ _ _ _ _ _ _ _ _ _ _ c.loop-at.invariant.0 c.loop-at-test.true _ _ c.perform.ensures.result_after (ap is_apart (c.in-Ok-Moves.is ∙ ap Ok c.in-Ok-Moves.field-0-is)) _ (to_next _ _ _ (Ok Moves) refl (c.in-Ok-Moves.is ∙ ap Ok c.in-Ok-Moves.field-0-is) c.next_of-next.ensures) _ c.move_on.auto.trace _ c.move_on.ensures)
 
 pub position-r-requires-clause-f_in_bounds : goal.position-r-requires-clause-f_in_bounds
-position-r-requires-clause-f_in_bounds c = in_positions _ _ _ (stands_on _ _ _ _ _ _ _ _ _ _ _ _ _ _ c.loop-at.invariant.0 c.loop-at-test.true _ _ c.perform.ensures.result_after (ap is_apart c.in-Moves.is) _ (to_next _ _ _ Moves refl c.in-Moves.is c.next_of-next.ensures) _ c.move_on.auto.trace _ c.move_on.ensures) _ c.place_now-g.ensures
+position-r-requires-clause-f_in_bounds c = in_positions _ _ _ (stands_on _ _ _ _ _ _ _ _ _ _ _ _ _ _ c.loop-at.invariant.0 c.loop-at-test.true _ _ c.perform.ensures.result_after (ap is_apart (c.in-Ok-Moves.is ∙ ap Ok c.in-Ok-Moves.field-0-is)) _ (to_next _ _ _ (Ok Moves) refl (c.in-Ok-Moves.is ∙ ap Ok c.in-Ok-Moves.field-0-is) c.next_of-next.ensures) _ c.move_on.auto.trace _ c.move_on.ensures) _ c.place_now-g.ensures
 
 pub position-r-requires-clause-at_value : goal.position-r-requires-clause-at_value
-position-r-requires-clause-at_value c = next_kept _ _ _ _ _ _ _ _ _ _ _ _ _ _ c.loop-at.invariant.0 c.loop-at-test.true _ _ c.perform.ensures.result_after (ap is_apart c.in-Moves.is) _ (to_next _ _ _ Moves refl c.in-Moves.is c.next_of-next.ensures) _ c.move_on.auto.trace _ c.move_on.ensures
+position-r-requires-clause-at_value c = next_kept _ _ _ _ _ _ _ _ _ _ _ _ _ _ c.loop-at.invariant.0 c.loop-at-test.true _ _ c.perform.ensures.result_after (ap is_apart (c.in-Ok-Moves.is ∙ ap Ok c.in-Ok-Moves.field-0-is)) _ (to_next _ _ _ (Ok Moves) refl (c.in-Ok-Moves.is ∙ ap Ok c.in-Ok-Moves.field-0-is) c.next_of-next.ensures) _ c.move_on.auto.trace _ c.move_on.ensures
 
-pub time_of-time-requires-in-Moves : goal.time_of-time-requires-in-Moves
-time_of-time-requires-in-Moves c = in_times _ _ _ (stands_on _ _ _ _ _ _ _ _ _ _ _ _ _ _ c.loop-at.invariant.0 c.loop-at-test.true _ _ c.perform.ensures.result_after (ap is_apart c.in-Moves.is) _ (to_next _ _ _ Moves refl c.in-Moves.is c.next_of-next.ensures) _ c.move_on.auto.trace _ c.move_on.ensures) _ c.place_now-g.ensures
+pub time_of-time-requires-in-Ok-Moves : goal.time_of-time-requires-in-Ok-Moves
+time_of-time-requires-in-Ok-Moves c = in_times _ _ _ (stands_on _ _ _ _ _ _ _ _ _ _ _ _ _ _ c.loop-at.invariant.0 c.loop-at-test.true _ _ c.perform.ensures.result_after (ap is_apart (c.in-Ok-Moves.is ∙ ap Ok c.in-Ok-Moves.field-0-is)) _ (to_next _ _ _ (Ok Moves) refl (c.in-Ok-Moves.is ∙ ap Ok c.in-Ok-Moves.field-0-is) c.next_of-next.ensures) _ c.move_on.auto.trace _ c.move_on.ensures) _ c.place_now-g.ensures
 
 pub loop-at-smaller : goal.loop-at-smaller
 loop-at-smaller c = omega (arith, c.loop-at-test.true)
 
 pub loop-at-preserved : goal.loop-at-preserved
-loop-at-preserved c = (moves _ _ _ _ _ _ _ _ _ _ _ _ _ _ c.loop-at.invariant.0 c.loop-at-test.true _ _ c.perform.ensures.result_after (ap is_apart c.in-Moves.is) _ (to_next _ _ _ Moves refl c.in-Moves.is c.next_of-next.ensures) _ c.move_on.auto.trace _ c.move_on.ensures _ _ _ c.place_now-g.ensures c.time_of-time-in-Moves.ensures c.position-r.ensures, c.perform.ensures.covers_2 (its_linking _ _ _ _ _ _ _ _ _ _ _ _ _ _ c.loop-at.invariant.0), c.perform.auto.bounds ∙ c.loop-at.invariant.2)
+loop-at-preserved c = (moves _ _ _ _ _ _ _ _ _ _ _ _ _ _ c.loop-at.invariant.0 c.loop-at-test.true _ _ c.perform.ensures.result_after (ap is_apart (c.in-Ok-Moves.is ∙ ap Ok c.in-Ok-Moves.field-0-is)) _ (to_next _ _ _ (Ok Moves) refl (c.in-Ok-Moves.is ∙ ap Ok c.in-Ok-Moves.field-0-is) c.next_of-next.ensures) _ c.move_on.auto.trace _ c.move_on.ensures _ _ _ c.place_now-g.ensures c.time_of-time-in-Ok-Moves.ensures c.position-r.ensures, c.perform.ensures.covers_2 (its_linking _ _ _ _ _ _ _ _ _ _ _ _ _ _ c.loop-at.invariant.0), c.perform.auto.bounds ∙ c.loop-at.invariant.2)
 
 pub place-requires : goal.place-requires
 place-requires c = in_table _ _ _ _ _ _ _ _ _ _ _ _ _ _ c.loop-at.invariant.0
 
-pub returns-in-Apart-clause-paused : goal.returns-in-Apart-clause-paused
-returns-in-Apart-clause-paused c = waits _ _ _ _ _ _ _ _ _ _ _ _ _ _ c.loop-at.invariant.0 c.loop-at-test.true _ _ c.perform.ensures.result_after (ap is_apart c.in-Apart.is) _ c.place.ensures
+pub returns-in-Ok-Apart-clause-paused : goal.returns-in-Ok-Apart-clause-paused
+returns-in-Ok-Apart-clause-paused c = waits _ _ _ _ _ _ _ _ _ _ _ _ _ _ c.loop-at.invariant.0 c.loop-at-test.true _ _ c.perform.ensures.result_after (ap is_apart (c.in-Ok-Apart.is ∙ ap Ok c.in-Ok-Apart.field-0-is)) _ c.place.ensures
 
-pub returns-in-Apart-clause-covers_2 : goal.returns-in-Apart-clause-covers_2
-returns-in-Apart-clause-covers_2 c = c.perform.ensures.covers_2 (its_linking _ _ _ _ _ _ _ _ _ _ _ _ _ _ c.loop-at.invariant.0)
+pub returns-in-Ok-Apart-clause-covers_2 : goal.returns-in-Ok-Apart-clause-covers_2
+returns-in-Ok-Apart-clause-covers_2 c = c.perform.ensures.covers_2 (its_linking _ _ _ _ _ _ _ _ _ _ _ _ _ _ c.loop-at.invariant.0)
 
-pub place-requires-in-Refused : goal.place-requires-in-Refused
-place-requires-in-Refused c = in_table _ _ _ _ _ _ _ _ _ _ _ _ _ _ c.loop-at.invariant.0
+pub place-requires-in-Err : goal.place-requires-in-Err
+place-requires-in-Err c = in_table _ _ _ _ _ _ _ _ _ _ _ _ _ _ c.loop-at.invariant.0
 
-pub returns-in-Refused-clause-paused : goal.returns-in-Refused-clause-paused
-returns-in-Refused-clause-paused c = stopped _ _ _ _ _ _ _ _ _ _ _ _ _ _ c.loop-at.invariant.0 c.loop-at-test.true _ _ c.perform.ensures.result_after (ap is_apart c.in-Refused.is) _ c.in-Refused.is _ c.place-in-Refused.ensures
+pub returns-in-Err-clause-paused : goal.returns-in-Err-clause-paused
+returns-in-Err-clause-paused c = stopped _ _ _ _ _ _ _ _ _ _ _ _ _ _ c.loop-at.invariant.0 c.loop-at-test.true _ _ c.perform.ensures.result_after (ap is_apart c.in-Err.is) _ c.in-Err.is _ c.place-in-Err.ensures
 
-pub returns-in-Refused-clause-covers_2 : goal.returns-in-Refused-clause-covers_2
-returns-in-Refused-clause-covers_2 c = c.perform.ensures.covers_2 (its_linking _ _ _ _ _ _ _ _ _ _ _ _ _ _ c.loop-at.invariant.0)
+pub returns-in-Err-clause-covers_2 : goal.returns-in-Err-clause-covers_2
+returns-in-Err-clause-covers_2 c = c.perform.ensures.covers_2 (its_linking _ _ _ _ _ _ _ _ _ _ _ _ _ _ c.loop-at.invariant.0)
 
 pub place-requires-2 : goal.place-requires-2
 place-requires-2 c = in_table _ _ _ _ _ _ _ _ _ _ _ _ _ _ c.loop-at.invariant.0

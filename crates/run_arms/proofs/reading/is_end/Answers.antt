@@ -1,8 +1,0 @@
-use borrow.Author.Tests.{eq-eqb, ne_eqb}
-use Rattle.run_arms.proofs.reading.is_end.Goals as goal
-
-pub returns-then-r-ne0 : goal.returns-then-r-ne0
-returns-then-r-ne0 c = rw (ne_eqb _ _ c.if-r-ne0.true)
-
-pub returns : goal.returns
-returns c = rw (eq-eqb _ _ c.if-r-ne0.false)
