@@ -1,75 +1,44 @@
-// The calls by their numbers (docs/CALLS.md): those of SIMSET and SIMULATION are decoded to values, and each other group has a file with
-// `has`, which numbers it takes, and `answer`.
-use crate::{accum_calls, decode, fresh_call, judge_call, run_calls, sheet_call, turn_call};
+// Makes a call on the tables of its request.
+use crate::call::Call;
+use crate::{accum_calls, turn_call};
 use calls_served::head::Head;
-use calls_served::reply::{Reply, answered};
+use calls_served::reply::{Reply, accepted, answered, refused};
+use model::Refusal;
+use model_fresh::fresh;
+use model_judge::judge_tables;
+use run::fresh::fresh_run;
+use run::run;
+use run_answer::end_code;
+use run_laws::Ran;
+use sheet_check::check::check;
 use simula::{query, sequencing_call, set_call};
+use trace::LINE_BYTES;
 
-// Is there such a call on a model?
-fn on_model(call: u32) -> bool {
-    if decode::is_set_call(call) {
-        return true;
+fn judged(judged: Result<(), Refusal>) -> Reply {
+    match judged {
+        Ok(()) => accepted(0),
+        Err(q) => refused(q),
     }
-    if decode::is_sequencing_call(call) {
-        return true;
-    }
-    if decode::is_query(call) {
-        return true;
-    }
-    if accum_calls::has(call) {
-        return true;
-    }
-    if fresh_call::has(call) {
-        return true;
-    }
-    judge_call::has(call)
 }
 
-// Is there such a call?
-pub(crate) fn known(call: u32) -> bool {
-    if run_calls::has(call) {
-        return true;
+// The number of a sheet's records.
+fn checked(sheet: &[u8]) -> Reply {
+    match check(sheet) {
+        Ok(header) => accepted(header.records as u64),
+        Err(q) => refused(q),
     }
-    if sheet_call::has(call) {
-        return true;
-    }
-    on_model(call)
 }
 
-// Makes such a call on a model's tables: a test for each group, and the last one takes what is left.
-fn answer_on_model(
-    head: Head,
-    links: &mut [u32],
-    axis: &mut [u32],
-    times: &mut [u64],
-    marks: &mut [u8],
-    accums: &mut [i64],
-) -> Reply {
-    let call = head.call;
-    let c = head.counts;
-    if decode::is_set_call(call) {
-        let k = decode::set_call_of(head);
-        return answered(set_call(c, links, axis, times, marks, k));
+fn ended(ran: Ran) -> Reply {
+    Reply {
+        code: end_code(ran.end),
+        lines: ran.lines,
+        answer: 0,
     }
-    if decode::is_sequencing_call(call) {
-        let k = decode::sequencing_call_of(head);
-        return answered(sequencing_call(c, links, axis, times, marks, k));
-    }
-    if decode::is_query(call) {
-        let q = decode::query_of(head);
-        return answered(query(c, links, axis, times, marks, q));
-    }
-    if accum_calls::has(call) {
-        return accum_calls::answer(head, links, axis, times, marks, accums);
-    }
-    if fresh_call::has(call) {
-        return fresh_call::answer(head, links, axis, times, marks);
-    }
-    judge_call::answer(head, links, axis, times, marks)
 }
 
-// Makes a known call on the tables of its request.
 pub(crate) fn answer(
+    call: Call,
     head: Head,
     links: &mut [u32],
     axis: &mut [u32],
@@ -80,17 +49,22 @@ pub(crate) fn answer(
     sheet: &[u8],
     trace: &mut [u8],
 ) -> Reply {
-    let call = head.call;
-    if turn_call::has(call, trace.len()) {
-        return turn_call::answer(links, axis, times, marks, accums, positions, sheet, trace);
+    let c = head.counts;
+    let one_line = LINE_BYTES <= trace.len() && trace.len() < 2 * LINE_BYTES;
+    match call {
+        Call::Judge => judged(judge_tables(c, links, axis, times, marks)),
+        Call::Set(k) => answered(set_call(c, links, axis, times, marks, k)),
+        Call::Sequencing(k) => answered(sequencing_call(c, links, axis, times, marks, k)),
+        Call::Query(q) => answered(query(c, links, axis, times, marks, q)),
+        Call::Accum(k) => answered(accum_calls::answer(k, head, links, axis, times, marks, accums)),
+        Call::Fresh => judged(fresh(c, links, axis, times, marks)),
+        Call::FreshRun => judged(fresh_run(sheet, links, axis, times, marks, positions, accums)),
+        Call::Check => checked(sheet),
+        Call::Turn if one_line => ended(turn_call::run_by_turn(
+            sheet, links, axis, times, marks, positions, accums, trace,
+        )),
+        Call::Run | Call::Turn => ended(run(
+            sheet, links, axis, times, marks, positions, accums, trace,
+        )),
     }
-    if run_calls::has(call) {
-        return run_calls::answer(
-            call, links, axis, times, marks, accums, positions, sheet, trace,
-        );
-    }
-    if sheet_call::has(call) {
-        return sheet_call::answer(sheet);
-    }
-    answer_on_model(head, links, axis, times, marks, accums)
 }

@@ -3,26 +3,20 @@
 
 mod accum_calls;
 mod answer;
-mod decode;
+mod call;
 mod flow;
-mod fresh_call;
-mod judge_call;
 mod respond;
-mod run_calls;
 mod serve;
-mod sheet_call;
 mod streams;
 mod turn_call;
 
+use flow::Flow;
 use serve::serve;
 use std::io;
-use streams::Streams;
 
-// The buffers: a request or a response of the largest tables fits into each. A read or a write that failed is the program's error.
+// A read or a write that failed is the program's error.
 fn main(rt: HostRuntime) -> io::Result<()> {
-    let mut input = [0u8; 262144];
-    let mut output = [0u8; 262144];
-    let mut streams = Streams::new(rt.stdin(), rt.stdout());
-    serve(&mut input, &mut output, &mut streams);
-    streams.moved
+    let mut flow = Flow::new(rt.stdin(), rt.stdout());
+    serve(&mut flow);
+    flow.streams.moved
 }

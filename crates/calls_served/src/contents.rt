@@ -2,13 +2,10 @@
 ghost use Rattle.std.specs.Prelude.{◌+◌, ◌≤◌, ◌≡◌, length};
 ghost use Rattle.calls_served.specs.Contents.{model_bytes, run_bytes, ModelFits, RunFits};
 
-use crate::copying::{
-    bytes_in, bytes_out, longs_in, longs_out, signed_in, signed_out, words_in, words_out,
-};
+use crate::copying::{table_in, table_out};
 use crate::head::Sizes;
-use crate::put::{put_u32, put_u64};
+use crate::put::Word;
 use crate::reply::Reply;
-use ring::wide;
 
 // The four tables, from the place `at`; answers the place behind them.
 pub fn model_in(
@@ -24,10 +21,10 @@ pub fn model_in(
     requires model_fits { ModelFits n (length links.old) (length axis.old) (length times.old) (length marks.old) }
     ensures { result ≡ at + model_bytes n }
 {
-    let a = words_in(s, at, links, wide(n.links));
-    let b = words_in(s, a, axis, wide(n.axis));
-    let c = longs_in(s, b, times, wide(n.times));
-    bytes_in(s, c, marks, wide(n.marks))
+    let a = table_in(s, at, &mut links[..n.links as usize]);
+    let b = table_in(s, a, &mut axis[..n.axis as usize]);
+    let c = table_in(s, b, &mut times[..n.times as usize]);
+    table_in(s, c, &mut marks[..n.marks as usize])
 }
 
 // Accumulators, positions and trace; answers the place of the sheet, which stays where it lies.
@@ -43,9 +40,9 @@ pub fn run_in(
     requires run_fits { RunFits n (length accums.old) (length positions.old) (length trace.old) }
     ensures { result + n.sheet ≤ length s.now }
 {
-    let a = signed_in(s, at, accums, 3 * wide(n.accums));
-    let b = words_in(s, a, positions, wide(n.positions));
-    bytes_in(s, b + wide(n.sheet), trace, wide(n.trace));
+    let a = table_in(s, at, &mut accums[..3 * n.accums as usize]);
+    let b = table_in(s, a, &mut positions[..n.positions as usize]);
+    table_in(s, b + n.sheet as usize, &mut trace[..n.trace as usize]);
     b
 }
 
@@ -54,9 +51,9 @@ pub fn reply_out(r: Reply, s: &mut [u8], at: usize) -> usize
     requires { at + 16 ≤ length s.old }
     ensures { result ≡ at + 16 }
 {
-    put_u32(s, at, r.code);
-    put_u32(s, at + 4, r.lines);
-    put_u64(s, at + 8, r.answer);
+    r.code.put(s, at);
+    r.lines.put(s, at + 4);
+    r.answer.put(s, at + 8);
     at + 16
 }
 
@@ -73,10 +70,10 @@ pub fn model_out(
     requires model_fits { ModelFits n (length links.now) (length axis.now) (length times.now) (length marks.now) }
     ensures { result ≡ at + model_bytes n }
 {
-    let a = words_out(s, at, links, wide(n.links));
-    let b = words_out(s, a, axis, wide(n.axis));
-    let c = longs_out(s, b, times, wide(n.times));
-    bytes_out(s, c, marks, wide(n.marks))
+    let a = table_out(s, at, &links[..n.links as usize]);
+    let b = table_out(s, a, &axis[..n.axis as usize]);
+    let c = table_out(s, b, &times[..n.times as usize]);
+    table_out(s, c, &marks[..n.marks as usize])
 }
 
 // Without the sheet.
@@ -92,7 +89,7 @@ pub fn run_out(
     requires run_fits { RunFits n (length accums.now) (length positions.now) (length trace.now) }
     ensures { result ≤ at + run_bytes n }
 {
-    let a = signed_out(s, at, accums, 3 * wide(n.accums));
-    let b = words_out(s, a, positions, wide(n.positions));
-    bytes_out(s, b, trace, wide(n.trace))
+    let a = table_out(s, at, &accums[..3 * n.accums as usize]);
+    let b = table_out(s, a, &positions[..n.positions as usize]);
+    table_out(s, b, &trace[..n.trace as usize])
 }

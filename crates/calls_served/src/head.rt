@@ -4,7 +4,6 @@ ghost use Rattle.calls_served.specs.Heads.{sizes_at, counts_at, head_at};
 ghost use Rattle.calls_served.specs.Contents.{model_bytes, run_bytes, ModelFits, RunFits};
 
 use model::Counts;
-use ring::wide;
 use words::{i64_at, u32_at};
 
 // How many of each: words, bytes, and accumulators of three words.
@@ -64,17 +63,14 @@ pub fn head_at(s: &[u8], at: usize) -> Head
     requires { at + 72 ≤ length s.now }
     ensures { result ≡ head_at s.now at }
 {
-    let counts = counts_at(s, at + 4);
-    let t = i64_at(s, at + 32);
-    let sizes = sizes_at(s, at + 40);
     Head {
         call: u32_at(s, at),
-        counts,
+        counts: counts_at(s, at + 4),
         clause: u32_at(s, at + 16),
         x: u32_at(s, at + 20),
         y: u32_at(s, at + 24),
-        t,
-        sizes,
+        t: i64_at(s, at + 32),
+        sizes: sizes_at(s, at + 40),
     }
 }
 
@@ -82,45 +78,27 @@ pub fn head_at(s: &[u8], at: usize) -> Head
 pub fn model_fits(n: Sizes) -> bool
     ensures { result ≡ true → ModelFits n 8448 4352 1088 1088 }
 {
-    if 8448 < n.links {
-        return false;
-    }
-    if 4352 < n.axis {
-        return false;
-    }
-    if 1088 < n.times {
-        return false;
-    }
-    if 1088 < n.marks {
-        return false;
-    }
-    true
+    n.links <= 8448 && n.axis <= 4352 && n.times <= 1088 && n.marks <= 1088
 }
 
 // Do accumulators, positions, sheet and trace fit?
 pub fn run_fits(n: Sizes) -> bool
     ensures { result ≡ true → RunFits n 240 1088 66000 }
 {
-    if 80 < n.accums {
-        return false;
-    }
-    if 1088 < n.positions {
-        return false;
-    }
-    if 56000 < n.sheet {
-        return false;
-    }
-    if 66000 < n.trace {
-        return false;
-    }
-    true
+    n.accums <= 80 && n.positions <= 1088 && n.sheet <= 56000 && n.trace <= 66000
 }
 
 // Bytes of the contents.
 pub fn contents_bytes(n: Sizes) -> usize
     ensures { (result ≡ model_bytes n + run_bytes n) × (result < 1099511627776) }
 {
-    let model = 4 * wide(n.links) + 4 * wide(n.axis) + 8 * wide(n.times) + wide(n.marks);
-    let run = 24 * wide(n.accums) + 4 * wide(n.positions) + wide(n.sheet) + wide(n.trace);
+    let model = 4 * n.links as usize
+        + 4 * n.axis as usize
+        + 8 * n.times as usize
+        + n.marks as usize;
+    let run = 24 * n.accums as usize
+        + 4 * n.positions as usize
+        + n.sheet as usize
+        + n.trace as usize;
     model + run
 }

@@ -1,33 +1,75 @@
-// Little-endian words put into bytes.
-ghost use Rattle.std.specs.Prelude.{◌+◌, ◌≤◌, length};
+// Numbers as little-endian bytes in a slice, by their type.
+ghost use Rattle.std.specs.Prelude.{ℕ, ◌+◌, ◌≤◌, length};
 
-pub(crate) fn put_u32(s: &mut [u8], i: usize, x: u32)
-    requires { i + 4 ≤ length s.old }
-{
-    s[i] = (x % 256) as u8;
-    s[i + 1] = (x / 256 % 256) as u8;
-    s[i + 2] = (x / 65536 % 256) as u8;
-    s[i + 3] = (x / 16777216) as u8;
+use words::{i64_at, u32_at, u64_at};
+
+pub(crate) trait Word: Copy {
+    // How many bytes it takes.
+    const SIZE: usize;
+
+    ghost SIZE: { ℕ };
+
+    // The number whose bytes begin at i.
+    fn at(s: &[u8], i: usize) -> Self
+        requires { i + SIZE ≤ length s.now };
+
+    // Puts its bytes at i.
+    fn put(self, s: &mut [u8], i: usize)
+        requires { i + SIZE ≤ length s.old };
 }
 
-pub(crate) fn put_u64(s: &mut [u8], i: usize, x: u64)
-    requires { i + 8 ≤ length s.old }
-{
-    put_u32(s, i, (x % 4294967296) as u32);
-    put_u32(s, i + 4, (x / 4294967296) as u32);
-}
+impl Word for u8 {
+    const SIZE: usize = 1;
 
-// The bits of a signed number.
-fn bits(x: i64) -> u64 {
-    if x < 0 {
-        let m = -1 - x;
-        return 18446744073709551615 - (m as u64);
+    ghost SIZE = { 1 };
+
+    fn at(s: &[u8], i: usize) -> u8 {
+        s[i]
     }
-    x as u64
+
+    fn put(self, s: &mut [u8], i: usize) {
+        s[i] = self;
+    }
 }
 
-pub(crate) fn put_i64(s: &mut [u8], i: usize, x: i64)
-    requires { i + 8 ≤ length s.old }
-{
-    put_u64(s, i, bits(x));
+impl Word for u32 {
+    const SIZE: usize = 4;
+
+    ghost SIZE = { 4 };
+
+    fn at(s: &[u8], i: usize) -> u32 {
+        u32_at(s, i)
+    }
+
+    fn put(self, s: &mut [u8], i: usize) {
+        s[i..i + 4].copy_from_slice(&self.to_le_bytes());
+    }
+}
+
+impl Word for u64 {
+    const SIZE: usize = 8;
+
+    ghost SIZE = { 8 };
+
+    fn at(s: &[u8], i: usize) -> u64 {
+        u64_at(s, i)
+    }
+
+    fn put(self, s: &mut [u8], i: usize) {
+        s[i..i + 8].copy_from_slice(&self.to_le_bytes());
+    }
+}
+
+impl Word for i64 {
+    const SIZE: usize = 8;
+
+    ghost SIZE = { 8 };
+
+    fn at(s: &[u8], i: usize) -> i64 {
+        i64_at(s, i)
+    }
+
+    fn put(self, s: &mut [u8], i: usize) {
+        s[i..i + 8].copy_from_slice(&self.to_le_bytes());
+    }
 }

@@ -4,7 +4,7 @@ ghost use Rattle.model.specs.Refusals.{refusal_number};
 ghost use Rattle.model.specs.Answers.{code_of, value_of};
 
 use model::Refusal;
-use model::answer::Answer;
+use model::answer::{Answer, code, value};
 
 #[derive(Clone, Copy)]
 pub struct Reply {
@@ -33,12 +33,12 @@ pub fn refused(q: Refusal) -> Reply
     }
 }
 
-pub fn answered(a: Answer) -> Reply
+pub fn answered(a: Result<Answer, Refusal>) -> Reply
     ensures { result ≡ record { code = code_of a; lines = 0; answer = value_of a } }
 {
     Reply {
-        code: a.code(),
+        code: code(a),
         lines: 0,
-        answer: a.value(),
+        answer: value(a),
     }
 }

@@ -9,17 +9,19 @@ mod show;
 use crate::input::read_full;
 use crate::output::Output;
 use crate::show::show;
-use sheet::header::Checked;
 use sheet_check::check::check;
 use std::io;
 use std::io::Write;
 
 // The sheet, or that it is refused: "sheet refused 8".
 fn run_sheet<W: Write>(sheet: &[u8], output: &mut Output<W>) {
-    let read = check(sheet);
-    match read {
-        Checked::Accepted(header) => show(header, sheet, output),
-        Checked::Refused(_) => output.say(b"sheet refused 8\n"),
+    match check(sheet) {
+        Ok(header) => show(header, sheet, output),
+        Err(_) => {
+            output.make_room();
+            output.put(b"sheet refused 8\n");
+            output.flush();
+        }
     }
 }
 

@@ -4,7 +4,7 @@ ghost use Rattle.run_laws.specs.Run.{lent};
 ghost use Rattle.run_print.specs.Pieces.{left_by};
 ghost use Rattle.machine.specs.Run.{line_size};
 
-use crate::output::{Output, flushed, put_count, put_number};
+use crate::output::Output;
 use run::run;
 use run_laws::Ran;
 use std::io::Write;
@@ -45,39 +45,22 @@ pub(crate) fn piece(
 }
 
 // The line whose 16 bytes begin at i: its time, process and record.
-fn put_line(out: &mut [u8; 4096], at: usize, trace: &[u8], i: usize) -> usize
-    requires line_size_in_bounds { i + line_size ≤ length trace.now }
-    requires at_bound { at + 128 ≤ 4096 }
-    ensures { result ≤ 4096 }
+fn put_line<W: Write>(trace: &[u8], i: usize, output: &mut Output<W>)
+    requires { i + line_size ≤ length trace.now }
 {
-    let time = u64_at(trace, i);
-    let process = u32_at(trace, i + 8);
-    let rec = u32_at(trace, i + 12);
-    let a = put_number(out, at, time, b' ');
-    let b = put_count(out, a, process, b' ');
-    put_count(out, b, rec, b'\n')
+    output.make_room();
+    output.put_number(u64_at(trace, i), b' ');
+    output.put_number(u32_at(trace, i + 8) as u64, b' ');
+    output.put_number(u32_at(trace, i + 12) as u64, b'\n');
 }
 
 // The first n lines of the trace.
-pub(crate) fn put_lines<W: Write>(
-    out: &mut [u8; 4096],
-    start: usize,
-    trace: &[u8],
-    n: u32,
-    output: &mut Output<W>,
-) -> usize
-    requires start_bound { start ≤ 4096 }
-    requires n_in_bounds { line_size * n ≤ length trace.now }
-    ensures { result ≤ 4096 }
+pub(crate) fn put_lines<W: Write>(trace: &[u8], n: u32, output: &mut Output<W>)
+    requires { line_size * n ≤ length trace.now }
 {
-    let mut at = start;
     let mut i = 0;
-    let mut k = 0;
-    while k < n {
-        let free = flushed(out, at, output);
-        at = put_line(out, free, trace, i);
+    for k in 0..n {
+        put_line(trace, i, output);
         i += LINE_BYTES;
-        k += 1;
     }
-    at
 }

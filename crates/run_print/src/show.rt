@@ -1,19 +1,17 @@
 // The whole run: pieces of 4,096 lines up to 1,000,000 steps, then how it ended.
-ghost use Rattle.std.specs.Prelude.{◌≡◌, ◌≤◌, length, get_or};
+ghost use Rattle.std.specs.Prelude.{◌≡◌, ◌≤◌, length, get_or, Ok};
 ghost use Rattle.model_laws.specs.Now.{half, first_of};
 ghost use Rattle.sheet.specs.Accepted.{checked};
-ghost use Rattle.sheet.specs.declared.header.Checked.TheVariants.{Accepted};
 ghost use Rattle.run_laws.specs.Run.{lent};
 ghost use Rattle.run_laws.specs.Standing.{Standing};
 ghost use Rattle.run_laws.specs.Starting.{Startable};
 ghost use Rattle.run_print.specs.Pieces.{Located};
 ghost use Rattle.machine.specs.Run.{trace_limit};
 
-use crate::output::{Output, flushed, put_count, put_number, put_text, write_first};
+use crate::output::Output;
 use crate::piece::{piece, put_lines};
 use machine::End;
 use model::{Counts, Refusal};
-use ring::wide;
 use run::fresh::fresh_run;
 use run_arms::reading::{place_now, record_of};
 use run_laws::{RUN_WORDS, TRACE_LIMIT};
@@ -27,47 +25,29 @@ pub const WHOLE: usize = 244;
 fn room(i: usize) -> usize
     ensures { result ≤ trace_limit }
 {
-    if i < WHOLE {
-        return TRACE_LIMIT;
-    }
-    9216
+    if i < WHOLE { TRACE_LIMIT } else { 9216 }
 }
 
-fn done<W: Write>(
-    out: &mut [u8; 4096],
-    start: usize,
-    word: &[u8],
-    steps: u64,
-    output: &mut Output<W>,
-)
-    requires word_len_bound { length word.now ≤ 12 }
-    requires start_bound { start ≤ 4096 }
+// How the run ended, and after how many steps.
+fn done<W: Write>(word: &[u8], steps: u64, output: &mut Output<W>)
+    requires { length word.now ≤ 12 }
 {
-    let at = flushed(out, start, output);
-    let a = put_text(out, at, word);
-    let b = put_number(out, a, steps, b'\n');
-    write_first(out, b, output);
+    output.make_room();
+    output.put(word);
+    output.put_number(steps, b'\n');
+    output.flush();
 }
 
 // "refused N at record R after S"
-fn refused<W: Write>(
-    out: &mut [u8; 4096],
-    start: usize,
-    q: Refusal,
-    rec: u32,
-    steps: u64,
-    output: &mut Output<W>,
-)
-    requires { start ≤ 4096 }
-{
-    let at = flushed(out, start, output);
-    let a = put_text(out, at, b"refused ");
-    let b = put_count(out, a, q.number(), b' ');
-    let c = put_text(out, b, b"at record ");
-    let d = put_count(out, c, rec, b' ');
-    let e = put_text(out, d, b"after ");
-    let f = put_number(out, e, steps, b'\n');
-    write_first(out, f, output);
+fn refused<W: Write>(q: Refusal, rec: u32, steps: u64, output: &mut Output<W>) {
+    output.make_room();
+    output.put(b"refused ");
+    output.put_number(q.number() as u64, b' ');
+    output.put(b"at record ");
+    output.put_number(rec as u64, b' ');
+    output.put(b"after ");
+    output.put_number(steps, b'\n');
+    output.flush();
 }
 
 // The record that current is at.
@@ -75,8 +55,7 @@ fn record_now(c: Counts, axis: &[u32], positions: &[u32]) -> u32
     requires { Located c axis.now positions.now }
     ensures { result ≡ get_or positions.now (first_of (half c) axis.now) 0 }
 {
-    let f = place_now(c, axis);
-    record_of(positions, f)
+    record_of(positions, place_now(c, axis))
 }
 
 // Piece after piece, on tables of a run of this sheet.
@@ -95,11 +74,8 @@ fn pieces<W: Write>(
     requires standing { Standing c sheet.now (lent links.old axis.old times.old marks.old positions.old accums.old) }
     requires trace_limit_in_bounds { trace_limit ≤ length trace.old }
 {
-    let mut out = [0u8; 4096];
-    let mut at = 0;
     let mut steps = 0;
-    let mut i = 0;
-    while i <= WHOLE {
+    for i in 0..=WHOLE {
         let ran = piece(
             sheet,
             links,
@@ -111,41 +87,26 @@ fn pieces<W: Write>(
             trace,
             room(i),
         );
-        let n = ran.lines;
-        at = put_lines(&mut out, at, trace, n, output);
-        steps += n as u64;
-        let end = ran.end;
-        match end {
-            End::Finished => {
-                done(&mut out, at, b"finished ", steps, output);
-                return;
-            }
+        put_lines(trace, ran.lines, output);
+        steps += ran.lines as u64;
+        match ran.end {
+            End::Finished => return done(b"finished ", steps, output),
             End::Refused(q) => {
-                refused(
-                    &mut out,
-                    at,
-                    q,
-                    record_now(c, axis, positions),
-                    steps,
-                    output,
-                );
-                return;
+                return refused(q, record_now(c, axis, positions), steps, output);
             }
-            End::Full => {
-                i += 1;
-            }
+            End::Full => {}
         }
     }
-    done(&mut out, at, b"stopped ", steps, output);
+    done(b"stopped ", steps, output);
 }
 
 // A fresh run over local tables, cut to the sheet's lengths.
 pub(crate) fn show<W: Write>(header: Header, sheet: &[u8], output: &mut Output<W>)
-    requires { checked sheet.now ≡ Accepted header }
+    requires { checked sheet.now ≡ Ok header }
 {
     let c = header.counts;
     let n = c.total() + 1;
-    let p = wide(c.processes) + 1;
+    let p = c.processes as usize + 1;
     let mut links = [0u32; 8194];
     let mut axis = [0u32; 2052];
     let mut times = [0u64; 1025];
@@ -185,7 +146,7 @@ fn on_tables<W: Write>(
         trace.old }
     requires trace_limit_in_bounds { trace_limit ≤ length trace.old }
 {
-    fresh_run(sheet, links, axis, times, marks, positions, accums);
+    let _ = fresh_run(sheet, links, axis, times, marks, positions, accums);
     let c = header.counts;
     pieces(
         c, sheet, links, axis, times, marks, positions, accums, trace, output,

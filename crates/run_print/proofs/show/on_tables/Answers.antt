@@ -3,6 +3,3 @@ use Rattle.run_print.proofs.show.on_tables.Goals as goal
 
 pub pieces-requires-clause-standing : goal.pieces-requires-clause-standing
 pieces-requires-clause-standing g c = fresh_stands_on c.args.header c.args.sheet.now _ c.args.trace.now c.requires.startable _ _ c.fresh_run.ensures
-
-pub pieces-requires-clause-trace_limit_in_bounds : goal.pieces-requires-clause-trace_limit_in_bounds
-pieces-requires-clause-trace_limit_in_bounds g c = c.requires.trace_limit_in_bounds

@@ -1,3 +1,0 @@
--- laws that the code's proofs cite
-pub mod Parts
-pub mod OneLine

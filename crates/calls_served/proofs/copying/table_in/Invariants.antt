@@ -1,0 +1,5 @@
+use Rattle.std.proofs.Common.{◌+◌, ◌*◌, ◌≡◌}
+use Rattle.calls_served.proofs.copying.table_in.Given as goal
+
+abbrev pub invariant-loop-x : goal.invariant-loop-x
+invariant-loop-x g l = l.next ≡ l.at + g.T.Word.SIZE * l.x-index
