@@ -10,6 +10,7 @@ ghost use Rattle.accum_laws.specs.Calls.{count_fine, list_fine, number_fine, lis
 use accum_laws::Picked;
 use model::{Counts, Refusal};
 use model_judge::judge_tables;
+use ring::Rings;
 use simulation_axis::{first, time_at};
 
 // The time of a judged model: that of the first notice.
@@ -17,8 +18,11 @@ pub fn time_of(c: Counts, links: &[u32], axis: &[u32], times: &[u64], marks: &[u
     requires { Ready c (model_of links.now axis.now times.now marks.now) }
     ensures { result ≡ time_of (half c) axis.now times.now }
 {
-    let f = first(axis, c.processes as usize + 2);
-    time_at(times, f as usize)
+    let notices = Rings {
+        words: axis,
+        m: c.processes as usize + 2,
+    };
+    time_at(times, first(notices) as usize)
 }
 
 // May a list have this many accumulators?

@@ -27,9 +27,9 @@ module _ (p m : ℕ) (t u v : List ℕ) (some : 1 ≤ p) (e : m ≡ p + 2) (two 
   pub axis_sound : Sound m v
   axis_sound = rw (e, v_is) (spells_sound (p + 2) (axis_head (p + 2)) (λ h. []) (self_linked (p + 2) (p + 1) (zeros (2 * (p + 2)))) (started p some) (omega arith))
 
-  pub axis_is : (w : List ℕ) → w ≡ linked_before m 1 (p + 1) v → w ≡ fresh_axis p
+  pub axis_is : (w l : List ℕ) → w ≡ l → l ≡ linked_before m 1 (p + 1) v → w ≡ fresh_axis p
   unfolding fresh_axis
-  axis_is w f = f ∙ ap₂ (λ (k : ℕ) (l : List ℕ). linked_before k 1 (p + 1) l) e v_is
+  axis_is w l k f = k ∙ f ∙ ap₂ (λ (k : ℕ) (l : List ℕ). linked_before k 1 (p + 1) l) e v_is
 
 pub same_tables : (a b : Tables) → a.links ≡ b.links → a.axis ≡ b.axis → a.times ≡ b.times → a.marks ≡ b.marks → a ≡ b
 same_tables a b p q r s = λ i. record { links = p i; axis = q i; times = r i; marks = s i }

@@ -8,7 +8,7 @@ ghost use Rattle.model_laws.specs.Fresh.{fresh_heads, fresh_axis, fresh_tables, 
 
 use model::{Counts, Refusal};
 use model_judge::lengths_fine;
-use ring::{link_before, start_ring};
+use ring::{RingsMut, start_ring};
 
 // An empty ring for each of the heads 1 .. heads.
 fn start_heads(t: &mut [u32], m: usize, heads: u32)
@@ -28,7 +28,7 @@ fn start_axis(t: &mut [u32], pw: u32)
     let m = pw as usize + 2;
     t.fill(0);
     start_ring(t, m, pw + 1);
-    link_before(t, m, 1, pw + 1);
+    RingsMut { words: t, m }.link_before(1, pw + 1);
 }
 
 // The four tables of a fresh model.

@@ -23,9 +23,9 @@ module _ (m H y : ℕ) (t : List ℕ) where
   unfolding set_at
   own_set l = rw (le-leb y H l)
 
-  pub link's_set : H < y → (n h : ℕ) → n + 1 ≡ m → h ≡ head_at (n + 1) H y t → h ≡ set_at m H y t
+  pub link's_set : H < y → (h : ℕ) → h ≡ head_at m H y t → h ≡ set_at m H y t
   unfolding set_at
-  link's_set l n h e is = rw (lt-leb y H l) (is ∙ ap (λ (k : ℕ). head_at k H y t) e)
+  link's_set l h is = rw (lt-leb y H l) is
 
   pub set_in : (h : ℕ) → h ≡ set_at m H y t → h ≤ H
   unfolding set_at
@@ -35,7 +35,7 @@ module _ (m H y : ℕ) (t : List ℕ) where
       (λ e. omega (arith, rw e at is, head_found H t m (get_or t y 0)))
 
 module _ (c : Counts) (x h : ℕ) (links bounds : List ℕ) (v : Covers c 0 links bounds) (some : 0 < h) (in-heads : h ≤ c.heads)
-    (lots : many c ≡ true) (i : ℕ) (ih : i ≡ h) where
+    (lots : many c ≡ true) where
   abbrev m : ℕ
   m = total c + 1
 
@@ -47,35 +47,26 @@ module _ (c : Counts) (x h : ℕ) (links bounds : List ℕ) (v : Covers c 0 link
   not_full l = rw (lt-ltb (counted m h links) most_members l)
 
   -- the bound says enough
-  pub by_bound : get_or bounds i 0 < most_members → Tested c h links full (set bounds i (get_or bounds i 0 + 1)) false
+  pub by_bound : get_or bounds h 0 < most_members → Tested c h links full (set bounds h (get_or bounds h 0 + 1)) false
   by_bound l =
-      let few : counted m h links ≤ get_or bounds i 0 =
-      rw ih (omega (arith, v.most lots h some in-heads (rw ih at l))) in
-      record {
-        is = not_full (omega arith);
-        covers = subst (λ (j : ℕ). Covers c h links (set bounds j (get_or bounds i 0 + 1))) (sym ih)
-            (covers_one c links bounds v h some in-heads (get_or bounds i 0) (λ e. few));
-      }
+      let few : counted m h links ≤ get_or bounds h 0 = omega (arith, v.most lots h some in-heads l) in
+      record { is = not_full (omega arith); covers = covers_one c links bounds v h some in-heads (get_or bounds h 0) (λ e. few) }
 
-  module _ (w n : ℕ) (ew : w ≡ most_members) (en : n ≡ steps links i w (get_or links i 0)) where
-    least : n ≡ steps links h most_members (get_or links h 0)
-    least = en ∙ ap (λ (j : ℕ). steps links i j (get_or links i 0)) ew ∙ ap (λ (j : ℕ). steps links j most_members (get_or links j 0)) ih
-
+  module _ (n : ℕ) (least : n ≡ steps links h most_members (get_or links h 0)) where
     all : most_members ≤ m
     all = omega (arith, ltb-true most_members (c.processes + c.plains) lots)
 
     -- the count does
-    pub by_count : n < most_members → Tested c h links full (set bounds i (n + 1)) false
+    pub by_count : n < most_members → Tested c h links full (set bounds h (n + 1)) false
     by_count l =
         let size = steps_few links h most_members m (get_or links h 0) all (omega (arith, least)) in
         record {
           is = not_full (omega (arith, size, least));
-          covers = subst (λ (j : ℕ). Covers c h links (set bounds j (n + 1))) (sym ih)
-              (covers_one c links bounds v h some in-heads n (λ e. omega (arith, size, least)));
+          covers = covers_one c links bounds v h some in-heads n (λ e. omega (arith, size, least));
         }
 
     -- the set has 512: x may be one of them
-    pub by_head : most_members ≤ get_or bounds i 0 → most_members ≤ n → (j g : ℕ) → j ≡ total c → g ≡ head_at (j + 1) c.heads x links
+    pub by_head : most_members ≤ get_or bounds h 0 → most_members ≤ n → (j g : ℕ) → j ≡ m → g ≡ head_at j c.heads x links
         → Tested c h links full bounds (not (eqb g h))
     unfolding full_at
     by_head b l j g ej eg =
@@ -83,8 +74,8 @@ module _ (c : Counts) (x h : ℕ) (links bounds : List ℕ) (v : Covers c 0 link
         record {
           is =
               rw (le-ltb (counted m h links) most_members size)
-              (ap (λ (q : ℕ). not (eqb q h)) (eg ∙ ap (λ (q : ℕ). head_at (q + 1) c.heads x links) ej));
-          covers = covers_same c links bounds v h some in-heads (rw ih at b);
+              (ap (λ (q : ℕ). not (eqb q h)) (eg ∙ ap (λ (q : ℕ). head_at q c.heads x links) ej));
+          covers = covers_same c links bounds v h some in-heads b;
         }
 
 module _ (c : Counts) (x y : ℕ) (links bounds : List ℕ) (v : Covers c 0 links bounds) where
@@ -96,10 +87,13 @@ module _ (c : Counts) (x y : ℕ) (links bounds : List ℕ) (v : Covers c 0 link
   not_many e = record { is = rw e; covers = covers_few c 0 k links links bounds e v }
 
   module _ (lots : many c ≡ true) (h : ℕ) (is : h ≡ k) where
-    pub beside_none : h ≡ 0 → Tested c k links (full_for c x y links) bounds false
+    pub beside_none : h ≡ 0 → Tested c k links (full_for c x y links) bounds (not (eqb h 0))
     unfolding full_for
     beside_none z =
-        record { is = rw (lots, eq-eqb k 0 (sym is ∙ z)); covers = covers_none c k links bounds (sym is ∙ z) v }
+        record {
+          is = rw (lots, eq-eqb k 0 (sym is ∙ z), eq-eqb h 0 z);
+          covers = covers_none c k links bounds (sym is ∙ z) v;
+        }
 
     pub beside_some : h ≢ 0 → (b : List ℕ) (r : Bool) → Tested c h links (full_at (total c + 1) c.heads x h links) b r
         → Tested c k links (full_for c x y links) b r

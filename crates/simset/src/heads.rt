@@ -1,26 +1,20 @@
 // The head of the set in which a link stands.
 ghost use Rattle.std.specs.Prelude.{◌≡◌, ◌<◌};
-ghost use Rattle.ring_laws.specs.Table.{Sound};
 ghost use Rattle.simset_laws.specs.Walk.{head_at};
 
-use ring::wide;
+use ring::Rings;
 
 // Along the ring of x to its head, none where x lies on no ring. No ring has more than all linkages.
-pub fn head_at(t: &[u32], m: usize, heads: u32, x: u32) -> u32
-    requires sound { Sound m t.now }
-    requires x_lt_m { x < m }
-    ensures { result ≡ head_at m heads x t.now }
+pub fn head_at(links: Rings<'_>, heads: u32, x: u32) -> u32
+    requires { x < links.m }
+    ensures { result ≡ head_at links.entry.m heads x links.entry.words.now }
 {
-    let a = wide(x);
-    let mut i = t[a];
-    let mut k = m;
-    while 0 < k {
+    let mut i = links.words[x as usize];
+    for _ in 0..links.m {
         if i <= heads {
             return i;
         }
-        let p = wide(i);
-        i = t[p];
-        k -= 1;
+        i = links.words[i as usize];
     }
     0
 }

@@ -10,7 +10,7 @@ ghost use Rattle.simset_laws.specs.KnownRoom.{Known};
 
 use crate::heads::head_at;
 use model::Counts;
-use ring::{count, wide};
+use ring::Rings;
 
 // Words for the bounds of all heads, which are numbered 1 to 64, and for the two numbers below.
 pub const BOUNDS: usize = 66;
@@ -23,18 +23,14 @@ pub(crate) const FREE_LINKAGES: usize = 65;
 fn are_many(c: Counts) -> bool
     ensures { result ≡ many c }
 {
-    wide(Counts::MAX_MEMBERS) < wide(c.processes) + wide(c.plains)
+    (Counts::MAX_MEMBERS as usize) < c.processes as usize + c.plains as usize
 }
 
 // Of the linkages up to n, those beside which no set is ever full: all, where there are not many links.
 fn free_to(c: Counts, n: u32) -> u32
     ensures { result ≡ free_to c n }
 {
-    let crowd = are_many(c);
-    if crowd {
-        return 0;
-    }
-    n
+    if are_many(c) { 0 } else { n }
 }
 
 // The bounds as a call begins with them: none is known.
@@ -61,48 +57,46 @@ pub fn known_room(c: Counts, y: u32, bounds: &mut [u32]) -> bool
     if c.heads < y {
         return false;
     }
-    let i = wide(y);
-    let bound = bounds[i];
+    let bound = bounds[y as usize];
     if bound < Counts::MAX_MEMBERS {
-        bounds[i] = bound + 1;
+        bounds[y as usize] = bound + 1;
         return true;
     }
     false
 }
 
 // The head of the set that y heads or stands in, or none.
-fn set_of(c: Counts, links: &[u32], y: u32) -> u32
-    requires sound { Sound (total c + 1) links.now }
-    requires y_bound { y < total c + 1 }
-    ensures { result ≡ set_at (total c + 1) c.heads y links.now }
+fn set_of(heads: u32, links: Rings<'_>, y: u32) -> u32
+    requires { y < links.m }
+    ensures { result ≡ set_at links.entry.m heads y links.entry.words.now }
 {
-    if y <= c.heads {
+    if y <= heads {
         return y;
     }
-    head_at(links, c.total() + 1, c.heads, y)
+    head_at(links, heads, y)
 }
 
 // Is the set of head h full for x? If not, its bound has room for x afterwards.
-fn is_full(c: Counts, links: &[u32], x: u32, h: u32, bounds: &mut [u32]) -> bool
-    requires sound { Sound (total c + 1) links.now }
+fn is_full(c: Counts, links: Rings<'_>, x: u32, h: u32, bounds: &mut [u32]) -> bool
+    requires half { links.m ≡ total c + 1 }
     requires x_bound { (x < total c + 1) × (0 < h) × (h ≤ c.heads) }
     requires c_value { many c ≡ true }
-    requires covers { Covers c 0 links.now bounds.old }
-    ensures { Tested c h links.now (full_at (total c + 1) c.heads x h links.now) bounds.new result }
+    requires covers { Covers c 0 links.words.now bounds.old }
+    ensures { Tested c h links.entry.words.now (full_at (total c + 1) c.heads x h links.entry.words.now) bounds.new result }
 {
-    let i = wide(h);
+    let i = h as usize;
     let b = bounds[i];
     if b < Counts::MAX_MEMBERS {
         bounds[i] = b + 1;
         return false;
     }
-    let most = wide(Counts::MAX_MEMBERS);
-    let n = count(links, c.total() + 1, i, most);
+    let most = Counts::MAX_MEMBERS as usize;
+    let n = links.count(i, most);
     if n < most {
         bounds[i] = n as u32 + 1;
         return false;
     }
-    head_at(links, c.total() + 1, c.heads, x) != h
+    head_at(links, c.heads, x) != h
 }
 
 // Is the set in which x would stand beside y full for it? Where there are not many links, none is.
@@ -116,9 +110,10 @@ pub fn no_room(c: Counts, links: &[u32], x: u32, y: u32, bounds: &mut [u32]) -> 
     if !are_many(c) {
         return false;
     }
-    let h = set_of(c, links, y);
-    if h == 0 {
-        return false;
-    }
-    is_full(c, links, x, h, bounds)
+    let rings = Rings {
+        words: links,
+        m: c.total() + 1,
+    };
+    let h = set_of(c.heads, rings, y);
+    h != 0 && is_full(c, rings, x, h, bounds)
 }

@@ -1,5 +1,6 @@
 // The set calls on the links of a judged model: refusal 3 by the operands' kinds, for those that enter a set 10 by its room, or the
-// procedure. Runs use these too.
+// procedure. Runs use these too. They are lent the counts and the words that their callers have: as `Rings` the words would come with a half
+// that a clause ties to the counts, in place of the clause that says they are sound.
 ghost use Rattle.std.specs.Prelude.{◌≡◌, ◌+◌, ◌<◌};
 ghost use Rattle.ring_laws.specs.Table.{Sound};
 ghost use Rattle.model.specs.Counts.{total, is_head, is_linkage};
@@ -14,16 +15,13 @@ use crate::procedures;
 use crate::room::{FREE_LINKAGES, no_room};
 use model::answer::Answer;
 use model::{Counts, Refusal};
-use ring::{unlink, wide};
+use ring::RingsMut;
 
 // A linkage, or none.
 fn linkage_or_none(c: Counts, y: u32) -> bool
     ensures { result ≡ or_none (is_linkage c y) y }
 {
-    if y == 0 {
-        return true;
-    }
-    c.is_linkage(y)
+    y == 0 || c.is_linkage(y)
 }
 
 // A head, or none: heads are numbered from 1.
@@ -33,6 +31,18 @@ pub fn head_or_none(c: Counts, y: u32) -> bool
     y <= c.heads
 }
 
+// The links of a model with these counts, as rings.
+pub fn sets(c: Counts, links: &mut [u32]) -> RingsMut<'_>
+    requires { Sound (total c + 1) links.old }
+    ensures value { (result.words.now ≡ links.old) × (result.m ≡ total c + 1) }
+    ensures same { result.words.ghost_name ≡ links.entry.ghost_name }
+{
+    RingsMut {
+        words: links,
+        m: c.total() + 1,
+    }
+}
+
 pub fn out(c: Counts, links: &mut [u32], x: u32) -> Result<Answer, Refusal>
     requires { Sound (total c + 1) links.old }
     ensures { Moved (total c + 1) (out_step c x links.entry.now) (record { links = links.exit.now; answer = result }) }
@@ -40,8 +50,7 @@ pub fn out(c: Counts, links: &mut [u32], x: u32) -> Result<Answer, Refusal>
     if !c.is_link(x) {
         return Err(Refusal::Operand);
     }
-    let n = c.total();
-    unlink(links, n + 1, wide(x));
+    sets(c, links).unlink(x as usize);
     Ok(Answer::Done)
 }
 
@@ -80,14 +89,9 @@ pub fn follow(
     if !c.is_link(x) {
         return Err(Refusal::Operand);
     }
-    match beside(c, links, x, y, bounds) {
-        Err(q) => Err(q),
-        Ok(()) => {
-            let n = c.total();
-            procedures::follow(links, n + 1, x, y);
-            Ok(Answer::Done)
-        }
-    }
+    beside(c, links, x, y, bounds)?;
+    procedures::follow(&mut sets(c, links), x, y);
+    Ok(Answer::Done)
 }
 
 pub fn precede(
@@ -105,14 +109,9 @@ pub fn precede(
     if !c.is_link(x) {
         return Err(Refusal::Operand);
     }
-    match beside(c, links, x, y, bounds) {
-        Err(q) => Err(q),
-        Ok(()) => {
-            let n = c.total();
-            procedures::precede(links, n + 1, x, y);
-            Ok(Answer::Done)
-        }
-    }
+    beside(c, links, x, y, bounds)?;
+    procedures::precede(&mut sets(c, links), x, y);
+    Ok(Answer::Done)
 }
 
 pub fn into(
@@ -127,17 +126,13 @@ pub fn into(
     ensures { Entered c links.entry.now (into_step c x y links.entry.now) bounds.new
         (record { links = links.exit.now; answer = result }) }
 {
-    if !c.is_link(x) {
-        return Err(Refusal::Operand);
-    }
-    if !head_or_none(c, y) {
+    if !(c.is_link(x) && head_or_none(c, y)) {
         return Err(Refusal::Operand);
     }
     if no_room(c, links, x, y, bounds) {
         return Err(Refusal::Full);
     }
-    let n = c.total();
-    procedures::precede(links, n + 1, x, y);
+    procedures::precede(&mut sets(c, links), x, y);
     Ok(Answer::Done)
 }
 
@@ -150,8 +145,7 @@ pub fn into_known(c: Counts, links: &mut [u32], x: u32, y: u32) -> Result<Answer
     if !c.is_link(x) {
         return Err(Refusal::Operand);
     }
-    let n = c.total();
-    procedures::precede(links, n + 1, x, y);
+    procedures::precede(&mut sets(c, links), x, y);
     Ok(Answer::Done)
 }
 
@@ -162,7 +156,6 @@ pub fn clear(c: Counts, links: &mut [u32], x: u32) -> Result<Answer, Refusal>
     if !c.is_head(x) {
         return Err(Refusal::Operand);
     }
-    let n = c.total();
-    procedures::clear(links, n + 1, wide(x));
+    procedures::clear(&mut sets(c, links), x as usize);
     Ok(Answer::Done)
 }

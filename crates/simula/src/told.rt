@@ -13,6 +13,7 @@ use crate::by_case::{sequencing_step, set_step};
 use model::answer::Answer;
 use model::call::{SequencingCall, SetCall};
 use model::{Counts, Refusal};
+use ring::Rings;
 use simset::heads::head_at;
 use simula_queries::on_links;
 use simulation::steps::current_link;
@@ -35,9 +36,16 @@ fn wait_told(c: Counts, links: &[u32], axis: &[u32]) -> Result<Answer, Refusal>
     requires sound { Sound (total c + 1) links.now }
     ensures { result ≡ wait_told c links.now axis.now }
 {
-    let f = first(axis, c.processes as usize + 2);
-    let x = current_link(c, f);
-    Ok(Answer::Linkage(head_at(links, c.total() + 1, c.heads, x)))
+    let notices = Rings {
+        words: axis,
+        m: c.processes as usize + 2,
+    };
+    let sets = Rings {
+        words: links,
+        m: c.total() + 1,
+    };
+    let x = current_link(c, first(notices));
+    Ok(Answer::Linkage(head_at(sets, c.heads, x)))
 }
 
 fn sequencing_told(

@@ -1,4 +1,5 @@
-// The set queries on the links of a judged model: refusal 3 by the operand's kind, or the answer.
+// The set queries on the links of a judged model: refusal 3 by the operand's kind, or the answer. As in simset's
+// steps, the words are lent beside the counts.
 ghost use Rattle.std.specs.Prelude.{◌≡◌, ◌+◌};
 ghost use Rattle.ring_laws.specs.Table.{Sound};
 ghost use Rattle.model.specs.Counts.{total};
@@ -7,7 +8,7 @@ ghost use Rattle.simset_laws.specs.Told.{head_told};
 
 use model::answer::Answer;
 use model::{Counts, Refusal};
-use ring::count;
+use ring::Rings;
 use simset::heads::head_at;
 use simset::procedures::link_or;
 
@@ -73,9 +74,11 @@ pub fn cardinal(c: Counts, links: &[u32], x: u32) -> Result<Answer, Refusal>
     if !c.is_head(x) {
         return Err(Refusal::Operand);
     }
-    let n = c.total();
-    let k = count(links, n + 1, x as usize, n + 1);
-    Ok(Answer::Number(k as u64))
+    let sets = Rings {
+        words: links,
+        m: c.total() + 1,
+    };
+    Ok(Answer::Number(sets.count(x as usize, sets.m) as u64))
 }
 
 // The head of the set in which a link stands, none where it stands in none: what the calls tell that take it out.
@@ -86,6 +89,9 @@ pub fn head(c: Counts, links: &[u32], x: u32) -> Result<Answer, Refusal>
     if !c.is_link(x) {
         return Err(Refusal::Operand);
     }
-    let n = c.total();
-    Ok(Answer::Linkage(head_at(links, n + 1, c.heads, x)))
+    let sets = Rings {
+        words: links,
+        m: c.total() + 1,
+    };
+    Ok(Answer::Linkage(head_at(sets, c.heads, x)))
 }

@@ -1,44 +1,43 @@
 // Activation with no clause and after a delay, where the first notice's place and time are known: the short ways that runs take.
 ghost use Rattle.std.specs.Prelude.{false, ◌<◌, ◌≤◌, pos};
-ghost use Rattle.model_laws.specs.Now.{AxisSound, half};
+ghost use Rattle.model_laws.specs.Now.{half};
+ghost use Rattle.ring.specs.Rings.{Kept};
 ghost use Rattle.simulation_laws.specs.Procedures.{activated};
 ghost use Rattle.simulation_laws.specs.Calls.{timed_step};
 ghost use Rattle.simulation_laws.specs.Promise.{sqs, Answers, Judged, Noticed};
 
-use crate::steps::process_or_none;
+use crate::steps::{axis_of, process_or_none};
 use model::answer::Answer;
 use model::{Counts, Refusal, TIME_LIMIT};
-use ring::wide;
+use ring::RingsMut;
 use simulation_procedures::activation::{above_zero, is_vain, schedule};
 
 // Activate with no clause, where the first notice's place and time are known: where it has an effect, X's notice is the first now.
 fn direct(
-    axis: &mut [u32],
-    m: usize,
+    axis: &mut RingsMut<'_>,
     times: &mut [u64],
     marks: &[u8],
     f: u32,
     time: u64,
     x: u32,
 ) -> Result<Answer, Refusal>
-    requires axis_sound { AxisSound m axis.old }
-    requires x_lt_m { x < m }
-    requires m_bound { m ≤ 1026 }
-    requires noticed { Noticed m f time axis.old times.old }
-    ensures { Answers m (activated m false 0 x 0 0 marks.now (sqs axis.old times.old))
-        axis.new times.new result }
+    requires x_lt_m { x < axis.old.m }
+    requires m_bound { axis.old.m ≤ 1026 }
+    requires noticed { Noticed axis.old.m f time axis.old.words.now times.old }
+    ensures answers { Answers axis.old.m (activated axis.old.m false 0 x 0 0 marks.now (sqs axis.old.words.now times.old))
+        axis.new.words.now times.new result }
+    ensures kept { Kept axis.old axis.new }
 {
-    if is_vain(axis, m, marks, false, 0, x, 0) {
+    if is_vain(axis.reading(), marks, false, 0, x, 0) {
         return Ok(Answer::Done);
     }
-    schedule(axis, m, times, 0, x, 0, time, time);
+    schedule(axis, times, 0, x, 0, time, time);
     Ok(Answer::Done)
 }
 
 // Activate after a delay, with the same known.
 fn delayed(
-    axis: &mut [u32],
-    m: usize,
+    axis: &mut RingsMut<'_>,
     times: &mut [u64],
     marks: &[u8],
     f: u32,
@@ -46,20 +45,20 @@ fn delayed(
     x: u32,
     d: u64,
 ) -> Result<Answer, Refusal>
-    requires axis_sound { AxisSound m axis.old }
-    requires x_lt_m { x < m }
-    requires m_bound { m ≤ 1026 }
-    requires noticed { Noticed m f time axis.old times.old }
-    ensures { Answers m (activated m false 2 x 0 d marks.now (sqs axis.old times.old))
-        axis.new times.new result }
+    requires x_lt_m { x < axis.old.m }
+    requires m_bound { axis.old.m ≤ 1026 }
+    requires noticed { Noticed axis.old.m f time axis.old.words.now times.old }
+    ensures answers { Answers axis.old.m (activated axis.old.m false 2 x 0 d marks.now (sqs axis.old.words.now times.old))
+        axis.new.words.now times.new result }
+    ensures kept { Kept axis.old axis.new }
 {
-    if is_vain(axis, m, marks, false, 2, x, 0) {
+    if is_vain(axis.reading(), marks, false, 2, x, 0) {
         return Ok(Answer::Done);
     }
     if d > TIME_LIMIT - time {
         return Err(Refusal::TimeLimit);
     }
-    schedule(axis, m, times, 2, x, 0, time, time + d);
+    schedule(axis, times, 2, x, 0, time, time + d);
     Ok(Answer::Done)
 }
 
@@ -81,9 +80,7 @@ pub fn activate_now(
     if !process_or_none(c, x) {
         return Err(Refusal::Operand);
     }
-    let p = wide(c.processes);
-    let q = c.place_of(x);
-    direct(axis, p + 2, times, marks, f, time, q)
+    direct(&mut axis_of(c, axis), times, marks, f, time, c.place_of(x))
 }
 
 // Activate after a delay, with the same known.
@@ -105,8 +102,13 @@ pub fn activate_after(
     if !process_or_none(c, x) {
         return Err(Refusal::Operand);
     }
-    let p = wide(c.processes);
-    let q = c.place_of(x);
-    let d = above_zero(t);
-    delayed(axis, p + 2, times, marks, f, time, q, d)
+    delayed(
+        &mut axis_of(c, axis),
+        times,
+        marks,
+        f,
+        time,
+        c.place_of(x),
+        above_zero(t),
+    )
 }

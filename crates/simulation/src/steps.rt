@@ -1,9 +1,9 @@
 // The sequencing calls on the tables of a judged model: refusal 3 by the operands' kinds, of wait 10 by the set's room, or the procedure.
-// Runs use these too.
+// Runs use these too. As in simset's steps, the words are lent beside the counts.
 ghost use Rattle.std.specs.Prelude.{◌≡◌, ◌+◌, ◌-◌, ◌<◌, ◌≤◌};
 ghost use Rattle.ring_laws.specs.Table.{Sound};
 ghost use Rattle.model.specs.Counts.{is_process, linkage_at, total};
-ghost use Rattle.model_laws.specs.Now.{half, first_of};
+ghost use Rattle.model_laws.specs.Now.{AxisSound, half, first_of};
 ghost use Rattle.simset_laws.specs.Calls.{or_none};
 ghost use Rattle.simset_laws.specs.KnownRoom.{Roomy};
 ghost use Rattle.simset_laws.specs.BoundLaws.{Covers};
@@ -15,10 +15,10 @@ ghost use Rattle.simulation_laws.specs.WaitPromise.{WaitEntered};
 
 use model::answer::Answer;
 use model::{Counts, Refusal};
-use ring::wide;
+use ring::RingsMut;
 use simset::procedures::precede;
 use simset::room::no_room;
-use simset::steps::head_or_none;
+use simset::steps::{head_or_none, sets};
 use simulation_axis::{first, lone};
 use simulation_procedures::activation::above_zero;
 use simulation_procedures::axis::drop_first;
@@ -28,10 +28,19 @@ use simulation_procedures::{activation, procedures};
 pub fn process_or_none(c: Counts, x: u32) -> bool
     ensures { result ≡ or_none (is_process c x) x }
 {
-    if x == 0 {
-        return true;
+    x == 0 || c.is_process(x)
+}
+
+// The time axis of a model with these counts, as rings.
+pub(crate) fn axis_of(c: Counts, axis: &mut [u32]) -> RingsMut<'_>
+    requires { AxisSound (half c) axis.old }
+    ensures value { (result.words.now ≡ axis.old) × (result.m ≡ half c) }
+    ensures same { result.words.ghost_name ≡ axis.entry.ghost_name }
+{
+    RingsMut {
+        words: axis,
+        m: c.processes as usize + 2,
     }
-    c.is_process(x)
 }
 
 pub fn hold(c: Counts, axis: &mut [u32], times: &mut [u64], t: i64) -> Result<Answer, Refusal>
@@ -39,9 +48,7 @@ pub fn hold(c: Counts, axis: &mut [u32], times: &mut [u64], t: i64) -> Result<An
     ensures { Answers (half c) (hold_step c t (sqs axis.old times.old)) axis.new times.new
         result }
 {
-    let p = wide(c.processes);
-    let d = above_zero(t);
-    procedures::hold(axis, p + 2, times, d)
+    procedures::hold(&mut axis_of(c, axis), times, above_zero(t))
 }
 
 // Hold, where current's place and time are known.
@@ -58,9 +65,7 @@ pub fn hold_now(
     ensures { Answers (half c) (hold_step c t (sqs axis.old times.old)) axis.new times.new
         result }
 {
-    let p = wide(c.processes);
-    let d = above_zero(t);
-    procedures::hold_first(axis, p + 2, times, f, time, d)
+    procedures::hold_first(&mut axis_of(c, axis), times, f, time, above_zero(t))
 }
 
 pub fn passivate(c: Counts, axis: &mut [u32], times: &mut [u64]) -> Result<Answer, Refusal>
@@ -68,8 +73,7 @@ pub fn passivate(c: Counts, axis: &mut [u32], times: &mut [u64]) -> Result<Answe
     ensures { Answers (half c) (passivate_step c (sqs axis.old times.old)) axis.new
         times.new result }
 {
-    let p = wide(c.processes);
-    procedures::passivate(axis, p + 2, times)
+    procedures::passivate(&mut axis_of(c, axis), times)
 }
 
 pub fn cancel(c: Counts, axis: &mut [u32], times: &mut [u64], x: u32) -> Result<Answer, Refusal>
@@ -80,43 +84,21 @@ pub fn cancel(c: Counts, axis: &mut [u32], times: &mut [u64], x: u32) -> Result<
     if !process_or_none(c, x) {
         return Err(Refusal::Operand);
     }
-    let p = wide(c.processes);
-    let q = c.place_of(x);
-    procedures::cancel(axis, p + 2, times, q)
+    procedures::cancel(&mut axis_of(c, axis), times, c.place_of(x))
 }
 
 // The clause and the parties it uses are of their kinds.
 fn parties_fine(c: Counts, clause: u32, x: u32, y: u32) -> bool
     ensures { result ≡ timed_need c clause x y }
 {
-    if 6 < clause {
-        return false;
-    }
-    if !process_or_none(c, x) {
-        return false;
-    }
-    if clause < 5 {
-        return true;
-    }
-    process_or_none(c, y)
-}
-
-// A clause as a byte.
-fn narrow(k: u32) -> u8
-    requires { k ≤ 6 }
-    ensures { result ≡ k }
-{
-    k as u8
+    clause <= 6 && (process_or_none(c, x) && (clause < 5 || process_or_none(c, y)))
 }
 
 // Y's place where the clause uses it.
 fn y_place(c: Counts, clause: u32, y: u32) -> u32
     ensures { result ≡ y_place c clause y }
 {
-    if clause < 5 {
-        return 0;
-    }
-    c.place_of(y)
+    if clause < 5 { 0 } else { c.place_of(y) }
 }
 
 // Activate, and again: reactivate.
@@ -138,12 +120,18 @@ pub fn activate(
     if !parties_fine(c, clause, x, y) {
         return Err(Refusal::Operand);
     }
-    let p = wide(c.processes);
     let q = c.place_of(x);
     let s = y_place(c, clause, y);
-    let k = narrow(clause);
-    let d = above_zero(t);
-    activation::activate(axis, p + 2, times, marks, again, k, q, s, d)
+    activation::activate(
+        &mut axis_of(c, axis),
+        times,
+        marks,
+        again,
+        clause as u8,
+        q,
+        s,
+        above_zero(t),
+    )
 }
 
 pub fn finish(
@@ -156,12 +144,12 @@ pub fn finish(
     ensures { FinishMade c (finish_step c marks.old (sqs axis.old times.old)) axis.new
         times.new marks.new result }
 {
-    let p = wide(c.processes);
-    let f = first(axis, p + 2);
+    let mut notices = axis_of(c, axis);
+    let f = first(notices.reading());
     if f == 1 {
         return Err(Refusal::Operand);
     }
-    procedures::finish(axis, p + 2, times, marks)
+    procedures::finish(&mut notices, times, marks)
 }
 
 // The number of the process at a place of the axis.
@@ -186,14 +174,14 @@ pub fn wait_known(
     ensures { WaitMade c (wait_step c y links.old (sqs axis.old times.old)) links.new
         axis.new times.new result }
 {
-    let m = wide(c.processes) + 2;
-    if lone(axis, m) {
+    let mut notices = axis_of(c, axis);
+    let now = notices.reading();
+    if lone(now) {
         return Err(Refusal::NoNotice);
     }
-    let at = first(axis, m);
-    let x = current_link(c, at);
-    precede(links, c.total() + 1, x, y);
-    drop_first(axis, m, times, at);
+    let at = first(now);
+    precede(&mut sets(c, links), current_link(c, at), y);
+    drop_first(&mut notices, times, at);
     Ok(Answer::Done)
 }
 
@@ -214,16 +202,17 @@ pub fn wait(
     if !head_or_none(c, y) {
         return Err(Refusal::Operand);
     }
-    let m = wide(c.processes) + 2;
-    let f = first(axis, m);
+    let mut notices = axis_of(c, axis);
+    let now = notices.reading();
+    let f = first(now);
     let x = current_link(c, f);
     if no_room(c, links, x, y, bounds) {
         return Err(Refusal::Full);
     }
-    if lone(axis, m) {
+    if lone(now) {
         return Err(Refusal::NoNotice);
     }
-    precede(links, c.total() + 1, x, y);
-    drop_first(axis, m, times, f);
+    precede(&mut sets(c, links), x, y);
+    drop_first(&mut notices, times, f);
     Ok(Answer::Done)
 }

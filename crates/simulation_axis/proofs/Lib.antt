@@ -1,3 +1,2 @@
 -- laws that the proofs of the code cite
 pub mod Seeks
-pub mod Reading

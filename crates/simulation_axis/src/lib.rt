@@ -3,65 +3,56 @@
 #![tactic(auto)]
 
 ghost use Rattle.std.specs.Prelude.{◌≡◌, ◌<◌, length};
-ghost use Rattle.model_laws.specs.Now.{AxisSound, first_of, next_place, prev_place, idle_on};
+ghost use Rattle.model_laws.specs.Now.{first_of, next_place, prev_place, idle_on};
 ghost use Rattle.simulation_laws.specs.Procedures.{found};
 ghost use Rattle.simulation_laws.specs.Promise.{sqs, Place, Read, Lone};
 
-use ring::wide;
+use ring::Rings;
 
 // The place of the first notice.
-pub fn first(axis: &[u32], m: usize) -> u32
-    requires { AxisSound m axis.now }
-    ensures { Place m (first_of m axis.now) result }
+pub fn first(axis: Rings<'_>) -> u32
+    ensures { Place axis.entry.m (first_of axis.entry.m axis.entry.words.now) result }
 {
-    axis[m - 1]
+    axis.words[axis.m - 1]
 }
 
 // The place behind x: another notice's, or the head's; 0 where x has no notice.
-pub fn next(axis: &[u32], m: usize, x: u32) -> u32
-    requires axis_sound { AxisSound m axis.now }
-    requires x_lt_m { x < m }
-    ensures { Place m (next_place axis.now x) result }
+pub fn next(axis: Rings<'_>, x: u32) -> u32
+    requires { x < axis.m }
+    ensures { Place axis.entry.m (next_place axis.entry.words.now x) result }
 {
-    let i = wide(x);
-    axis[i]
+    axis.words[x as usize]
 }
 
 // The place before x, likewise.
-pub fn prev(axis: &[u32], m: usize, x: u32) -> u32
-    requires axis_sound { AxisSound m axis.now }
-    requires x_lt_m { x < m }
-    ensures { Place m (prev_place m axis.now x) result }
+pub fn prev(axis: Rings<'_>, x: u32) -> u32
+    requires { x < axis.m }
+    ensures { Place axis.entry.m (prev_place axis.entry.m axis.entry.words.now x) result }
 {
-    axis[m + wide(x)]
+    axis.words[axis.m + x as usize]
 }
 
 // Whether x has no notice.
-pub fn idle(axis: &[u32], m: usize, x: u32) -> bool
-    requires axis_sound { AxisSound m axis.now }
-    requires x_lt_m { x < m }
-    ensures { result ≡ idle_on axis.now x }
+pub fn idle(axis: Rings<'_>, x: u32) -> bool
+    requires { x < axis.m }
+    ensures { result ≡ idle_on axis.entry.words.now x }
 {
-    axis[wide(x)] == 0
+    next(axis, x) == 0
 }
 
 // Whether there is no second notice.
-pub fn lone(axis: &[u32], m: usize) -> bool
-    requires { AxisSound m axis.now }
-    ensures { Lone m axis.now result }
+pub fn lone(axis: Rings<'_>) -> bool
+    ensures { Lone axis.entry.m axis.entry.words.now result }
 {
-    let c = wide(axis[m - 1]);
-    wide(axis[c]) == m - 1
+    let head = axis.m - 1;
+    axis.words[axis.words[head] as usize] as usize == head
 }
 
 // The time at a place, 0 past the table's end.
 pub fn due(times: &[u64], i: usize) -> u64
     ensures { Read i times.now result }
 {
-    if i >= times.len() {
-        return 0;
-    }
-    times[i]
+    if i < times.len() { times[i] } else { 0 }
 }
 
 // The same at a place of the table, with no test.
@@ -73,29 +64,23 @@ pub fn time_at(times: &[u64], i: usize) -> u64
 }
 
 // Behind which place a notice stands in front of all from w on, looked for from both ends at once.
-pub fn seek(axis: &[u32], m: usize, times: &[u64], w: u64) -> u32
-    requires { AxisSound m axis.now }
-    ensures { Place m (found m w (sqs axis.now times.now)) result }
+pub fn seek(axis: Rings<'_>, times: &[u64], w: u64) -> u32
+    ensures { Place axis.entry.m (found axis.entry.m w (sqs axis.entry.words.now times.now)) result }
 {
-    let head = m - 1;
-    let mut f = axis[head];
-    let mut b = axis[m + head];
-    let mut n: usize = 0;
-    while n < m {
-        let q = wide(b);
-        if q == head {
+    let head = axis.m - 1;
+    let mut f = axis.words[head];
+    let mut b = axis.words[axis.m + head];
+    for _ in 0..axis.m {
+        let q = b as usize;
+        if q == head || due(times, q) < w {
             return b;
         }
-        if due(times, q) < w {
-            return b;
-        }
-        let p = wide(f);
+        let p = f as usize;
         if due(times, p) >= w {
-            return axis[m + p];
+            return axis.words[axis.m + p];
         }
-        f = axis[p];
-        b = axis[m + q];
-        n += 1;
+        f = axis.words[p];
+        b = axis.words[axis.m + q];
     }
     b
 }

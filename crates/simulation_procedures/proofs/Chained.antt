@@ -2,11 +2,11 @@
 use Rattle.std.specs.Prelude.{Ok, Err}
 use Prim.Native.Nat.{ℕ, ◌+◌, ◌-◌, ◌<◌, ◌≤◌}
 use mathlib.Core.Path.{◌≡◌, sym, ap, ap₂, ◌∙◌}
-use mathlib.Core.Logic.{◌≢◌}
+use mathlib.Core.Logic.{◌≢◌, ◌⊎◌, inl, inr}
 use mathlib.Core.Bool.{Bool, true, false}
 use mathlib.Core.List.{List}
 use native.Mathlib.Numerals.{add-one}
-use lib.ListN.{get_or, set}
+use lib.ListN.{get_or}
 use borrow.Author.Tests.{eq-eqb, ne_eqb, le-leb, lt-leb, lt-ltb, le-ltb}
 use Rattle.ring_laws.specs.Table.{Made, unlinked, linked_behind}
 use Rattle.model.specs.Counts.{limit}
@@ -17,15 +17,13 @@ use Rattle.model_laws.specs.Now.{AxisSound, first_of, next_place, prev_place, id
 use Rattle.simulation_laws.specs.Procedures.{Sqs, made, found, drop_on, put_on, held_at, held, passivated, cancelled, finished_marks, due_at, place_for, put_by_clause, activated}
 use Rattle.simulation_laws.specs.Promise.{sqs, Left, Answers, AnswersMarked, Place, Stored, Read, Lone, Vain, BesideIdle, Due, capped_in, capped_out}
 
-pub dropped_by : (m x y z : ℕ) (a a' t t' : List ℕ) → y ≡ x → Made m (unlinked m y a) a' → z ≡ x → Stored z 0 t t' → Left m (drop_on m x (sqs a t)) a' t'
+pub dropped_by : (m x : ℕ) (a a' t t' : List ℕ) → Made m (unlinked m x a) a' → Stored x 0 t t' → Left m (drop_on m x (sqs a t)) a' t'
 unfolding drop_on
-dropped_by m x y z a a' t t' ex u ez e =
-    record { is = ap₂ (λ (p q : List ℕ). sqs p q) (u.is ∙ ap (λ (j : ℕ). unlinked m j a) ex) (e.is ∙ ap (λ (j : ℕ). set t j 0) ez); sound = u.sound }
+dropped_by m x a a' t t' u e = record { is = ap₂ (λ (p q : List ℕ). sqs p q) u.is e.is; sound = u.sound }
 
-pub put_by : (m x q u z : ℕ) (a a' t t' : List ℕ) → Made m (linked_behind m x q a) a' → z ≡ x → Stored z u t t' → Left m (put_on m x q u (sqs a t)) a' t'
+pub put_by : (m x q u : ℕ) (a a' t t' : List ℕ) → Made m (linked_behind m x q a) a' → Stored x u t t' → Left m (put_on m x q u (sqs a t)) a' t'
 unfolding put_on
-put_by m x q u z a a' t t' k ez e =
-    record { is = ap₂ (λ (p q : List ℕ). sqs p q) k.is (e.is ∙ ap (λ (j : ℕ). set t j u) ez); sound = k.sound }
+put_by m x q u a a' t t' k e = record { is = ap₂ (λ (p q : List ℕ). sqs p q) k.is e.is; sound = k.sound }
 
 module _ (m : ℕ) (a t : List ℕ) where
   -- drop, find, put
@@ -47,19 +45,16 @@ module _ (m : ℕ) (a t : List ℕ) where
       }
 
   -- hold
-  module _ (x u c s f : ℕ) (ec : c ≡ x) (pf : Place m (next_place a x) f) (es : s ≡ f) where
-    at_x : next_place a x ≡ s
-    at_x = sym (es ∙ pf.is)
-
-    pub held_last : (t' : List ℕ) → AxisSound m a → s ≡ m - 1 → Stored c u t t' → Left m (held_at m x u (sqs a t)) a t'
+  module _ (x u s : ℕ) (pf : Place m (next_place a x) s) where
+    pub held_last : (t' : List ℕ) → AxisSound m a → s ≡ m - 1 → Stored x u t t' → Left m (held_at m x u (sqs a t)) a t'
     unfolding held_at
     held_last t' so e st =
-        record { is = rw (at_x, eq-eqb s (m - 1) e, ← ec) (ap (λ (j : List ℕ). sqs a j) st.is); sound = so }
+        record { is = rw (← pf.is, eq-eqb s (m - 1) e) (ap (λ (j : List ℕ). sqs a j) st.is); sound = so }
 
-    pub held_soon : (y : ℕ) (t' : List ℕ) → AxisSound m a → s ≢ m - 1 → Read s t y → u < y → Stored c u t t' → Left m (held_at m x u (sqs a t)) a t'
+    pub held_soon : (y : ℕ) (t' : List ℕ) → AxisSound m a → s ≢ m - 1 → Read s t y → u < y → Stored x u t t' → Left m (held_at m x u (sqs a t)) a t'
     unfolding held_at
     held_soon y t' so n r l st =
-        record { is = rw (at_x, ne_eqb s (m - 1) n, lt-ltb u (get_or t s 0) (rw r.is at l), ← ec) (ap (λ (j : List ℕ). sqs a j) st.is); sound = so }
+        record { is = rw (← pf.is, ne_eqb s (m - 1) n, lt-ltb u (get_or t s 0) (rw r.is at l)) (ap (λ (j : List ℕ). sqs a j) st.is); sound = so }
 
     pub held_moved : (y : ℕ) (a' t' : List ℕ) → s ≢ m - 1 → Read s t y → y ≤ u
         → Left m (put_on m x (found m (u + 1) (drop_on m x (sqs a t))) u (drop_on m x (sqs a t))) a' t' → Left m (held_at m x u (sqs a t)) a' t'
@@ -67,14 +62,14 @@ module _ (m : ℕ) (a t : List ℕ) where
     held_moved y a' t' n r l k =
         record {
           is =
-              rw (at_x, ne_eqb s (m - 1) n, le-ltb u (get_or t s 0) (rw r.is at l))
+              rw (← pf.is, ne_eqb s (m - 1) n, le-ltb u (get_or t s 0) (rw r.is at l))
               (k.is ∙ ap (λ (j : ℕ). put_on m x (found m j (drop_on m x (sqs a t))) u (drop_on m x (sqs a t))) (add-one u));
           sound = k.sound;
         }
 
-  module _ (d x z y : ℕ) (px : Place m (first_of m a) x) (ez : z ≡ x) (r : Read z t y) where
+  module _ (d x y : ℕ) (px : Place m (first_of m a) x) (r : Read x t y) where
     the_time : time_of m a t ≡ y
-    the_time = sym (r.is ∙ ap (λ (j : ℕ). get_or t j 0) (ez ∙ px.is))
+    the_time = sym (r.is ∙ ap (λ (j : ℕ). get_or t j 0) px.is)
 
     pub hold_5 : AxisSound m a → limit < y + d → Answers m (held m d (sqs a t)) a t (Err TimeLimit)
     unfolding held
@@ -99,14 +94,14 @@ module _ (m : ℕ) (a t : List ℕ) where
     unfolding finished_marks
     finish_4 marks so e = record { is = (passive_4 so e).is; sound = so; marked = rw (sym lo.is ∙ e) }
 
-    pub finish_0 : (x z : ℕ) (marks marks' a' t' : List ℕ) → r ≡ false → Place m (first_of m a) x → z ≡ x → Stored z 1 marks marks'
+    pub finish_0 : (x : ℕ) (marks marks' a' t' : List ℕ) → r ≡ false → Place m (first_of m a) x → Stored x 1 marks marks'
         → Left m (drop_on m x (sqs a t)) a' t' → AnswersMarked m (passivated m (sqs a t)) (finished_marks m marks (sqs a t)) a' t' marks' (Ok Done)
     unfolding finished_marks
-    finish_0 x z marks marks' a' t' e p ez s k =
+    finish_0 x marks marks' a' t' e p s k =
         record {
           is = (passive_0 x a' t' e p k).is;
           sound = k.sound;
-          marked = rw (sym lo.is ∙ e, ← p.is, ← ez) s.is;
+          marked = rw (sym lo.is ∙ e, ← p.is) s.is;
         }
 
   module _ (x : ℕ) (b : Bool) (is : b ≡ idle_on a x) where
@@ -133,13 +128,10 @@ module _ (m : ℕ) (a t : List ℕ) where
     unfolding place_for
     place_6 l e = record { is = rw e; within = l }
 
-    pub place_behind : (q : ℕ) → (k ≡ 1 → ⊥) → k ≡ 2 → Place m (found m (u + 1) (sqs a t)) q → Place m (place_for m k y now u (sqs a t)) q
+    pub place_behind : (q : ℕ) → k ≡ 1 ⊎ ((k ≡ 1 → ⊥) × k ≡ 2) → Place m (found m (u + 1) (sqs a t)) q → Place m (place_for m k y now u (sqs a t)) q
     unfolding place_for
-    place_behind q n e p = record { is = rw e (p.is ∙ ap (λ (j : ℕ). found m j (sqs a t)) (add-one u)); within = p.within }
-
-    pub place_at : (q : ℕ) → k ≡ 1 → Place m (found m (u + 1) (sqs a t)) q → Place m (place_for m k y now u (sqs a t)) q
-    unfolding place_for
-    place_at q e p = record { is = rw e (p.is ∙ ap (λ (j : ℕ). found m j (sqs a t)) (add-one u)); within = p.within }
+    place_behind q (inl e) p = record { is = rw e (p.is ∙ ap (λ (j : ℕ). found m j (sqs a t)) (add-one u)); within = p.within }
+    place_behind q (inr e) p = record { is = rw e.1 (p.is ∙ ap (λ (j : ℕ). found m j (sqs a t)) (add-one u)); within = p.within }
 
     module _ (n5 : k ≢ 5) (n6 : k ≢ 6) (n1 : k ≢ 1) (n2 : k ≢ 2) where
       pub place_now : m - 1 < m → u ≡ now → Place m (place_for m k y now u (sqs a t)) (m - 1)
@@ -156,9 +148,9 @@ module _ (m : ℕ) (a t : List ℕ) where
     unfolding activated
     vain_0 so e = record { is = rw (sym va.is ∙ e); sound = so }
 
-    module _ (e : v ≡ false) (p z w u : ℕ) (px : Place m (first_of m a) p) (ez : z ≡ p) (r : Read z t w) (du : Due k y d w t u) where
+    module _ (e : v ≡ false) (p w u : ℕ) (px : Place m (first_of m a) p) (r : Read p t w) (du : Due k y d w t u) where
       now_is : time_of m a t ≡ w
-      now_is = sym (r.is ∙ ap (λ (j : ℕ). get_or t j 0) (ez ∙ px.is))
+      now_is = sym (r.is ∙ ap (λ (j : ℕ). get_or t j 0) px.is)
 
       pub active_5 : AxisSound m a → limit < u → Answers m (activated m again k x y d marks (sqs a t)) a t (Err TimeLimit)
       unfolding activated

@@ -6,6 +6,6 @@ pub returns-then-v-heads : goal.returns-then-v-heads
 unfolding link_or
 returns-then-v-heads c = rw (le-leb _ _ c.if-v-heads.true)
 
-pub returns : goal.returns
+pub returns-else-v-heads : goal.returns-else-v-heads
 unfolding link_or
-returns c = rw (lt-leb _ _ c.if-v-heads.false)
+returns-else-v-heads c = rw (lt-leb _ _ c.if-v-heads.false)

@@ -1,14 +1,10 @@
-use Rattle.std.specs.Prelude.{refl}
 use Rattle.simulation_laws.specs.ReadPromise.{current_told_lem}
 use Rattle.simulation_laws.specs.StepPromise.{first_low}
 use native.Mathlib.Omega.{arith}
 use Rattle.simula_queries.proofs.on_axis.current.Goals as goal
 
-pub first-f-requires : goal.first-f-requires
-first-f-requires c = c.requires.sound
-
 pub current_link-requires : goal.current_link-requires
-current_link-requires c = (c.requires.allowed.heads_in, omega (arith, c.requires.allowed.processes_in, first_low c.args.c _ c.requires _ c.first-f.ensures))
+current_link-requires c = (c.requires.allowed.heads_in, omega (arith, c.requires.allowed.processes_in, first_low c.args.c _ c.requires _ (rw (c.notices.ensures.1, c.notices.ensures.0) at c.first-f.ensures)))
 
 pub returns : goal.returns
-returns c = current_told_lem c.args.c _ _ _ _ c.first-f.ensures c.current_link.ensures
+returns c = current_told_lem c.args.c _ _ _ _ (rw (c.notices.ensures.1, c.notices.ensures.0) at c.first-f.ensures) c.current_link.ensures

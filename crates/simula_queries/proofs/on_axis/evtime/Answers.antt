@@ -10,14 +10,11 @@ pub returns-then-not-is_process : goal.returns-then-not-is_process
 unfolding evtime_told
 returns-then-not-is_process c = told_not _ _ (failed _ _ c.is_process.ensures (ap not c.if-not-is_process.true))
 
-pub idle-requires-clause-axis_sound : goal.idle-requires-clause-axis_sound
-idle-requires-clause-axis_sound c = c.requires.sound
-
-pub idle-requires-clause-x_lt_m : goal.idle-requires-clause-x_lt_m
-idle-requires-clause-x_lt_m c = omega (arith, c.place_of-q.ensures, is_in c.args.c c.args.x (passed _ _ c.is_process.ensures (ap not c.if-not-is_process.false)))
+pub idle-requires : goal.idle-requires
+idle-requires c = omega (arith, c.place_of-q.ensures, c.notices.ensures.1, is_in c.args.c c.args.x (passed _ _ c.is_process.ensures (ap not c.if-not-is_process.false)))
 
 pub returns-then-idle : goal.returns-then-idle
-returns-then-idle c = evtime_idle c.args.c _ _ c.args.x (passed _ _ c.is_process.ensures (ap not c.if-not-is_process.false)) _ c.place_of-q.ensures _ c.idle.ensures c.if-idle.true
+returns-then-idle c = evtime_idle c.args.c _ _ c.args.x (passed _ _ c.is_process.ensures (ap not c.if-not-is_process.false)) _ c.place_of-q.ensures _ (rw c.notices.ensures.0 at c.idle.ensures) c.if-idle.true
 
 pub returns : goal.returns
-returns c = evtime_some c.args.c _ _ c.args.x (passed _ _ c.is_process.ensures (ap not c.if-not-is_process.false)) _ c.place_of-q.ensures _ c.idle.ensures _ _ c.if-idle.false refl c.due.ensures
+returns c = evtime_some c.args.c _ _ c.args.x (passed _ _ c.is_process.ensures (ap not c.if-not-is_process.false)) _ c.place_of-q.ensures _ (rw c.notices.ensures.0 at c.idle.ensures) _ _ c.if-idle.false refl c.due.ensures

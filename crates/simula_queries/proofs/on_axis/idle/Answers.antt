@@ -9,4 +9,4 @@ unfolding idle_told
 returns-then-not-is_process c = told_not _ _ (failed _ _ c.is_process.ensures (ap not c.if-not-is_process.true))
 
 pub returns : goal.returns
-returns c = idle_told_lem c.args.c _ _ c.args.x (passed _ _ c.is_process.ensures (ap not c.if-not-is_process.false)) _ c.place_of-q.ensures _ c.idle.ensures
+returns c = idle_told_lem c.args.c _ _ c.args.x (passed _ _ c.is_process.ensures (ap not c.if-not-is_process.false)) _ c.place_of.ensures _ (rw c.notices.ensures.0 at c.idle.ensures)

@@ -1,11 +1,21 @@
+use Rattle.std.proofs.Common.{ap, not, ℕ, List}
+use borrow.Author.Rules.{rules}
+use Rattle.ring.specs.Rings.{told_by}
+use Rattle.model_laws.specs.Now.{half}
 use lib.IntN.{pos}
-use Rattle.simulation.proofs.ByFirst.{soon_3, soon_0}
 use native.Mathlib.Omega.{arith}
-use Rattle.std.proofs.Common.{ap, not}
+use Rattle.model.specs.Counts.{place_of}
+use Rattle.std.proofs.Common.{false}
+use Rattle.simulation_laws.specs.Procedures.{activated}
+use Rattle.simulation_laws.specs.Promise.{sqs, Answers}
+use Rattle.simulation.proofs.ByFirst.{soon_3, soon_0}
 use Rattle.simulation.proofs.soon.activate_now.Goals as goal
 
 pub returns-then-not-process_or_none : goal.returns-then-not-process_or_none
 returns-then-not-process_or_none c = soon_3 _ _ _ _ _ _ c.process_or_none.ensures 0 (omega arith) (pos 0) c.requires.judged.sound (ap not c.if-not-process_or_none.true)
 
 pub returns : goal.returns
-returns c = soon_0 _ _ _ _ _ _ c.process_or_none.ensures 0 (omega arith) (pos 0) (ap not c.if-not-process_or_none.false) _ _ _ (rw (c.wide-p.ensures, c.place_of-q.ensures) at c.direct.ensures)
+returns c = soon_0 _ _ _ _ _ _ c.process_or_none.ensures 0 (omega arith) (pos 0) (ap not c.if-not-process_or_none.false) _ _ _
+    (told_by (half c.args.c) c.args.axis.now _ c.axis_of.result c.direct.new.axis c.axis_of.ensures.value (search rules)
+    (λ (m : ℕ) (a v : List ℕ). Answers m (activated m false 0 (place_of c.args.c c.args.x) 0 0 c.args.marks.now (sqs a c.args.times.now)) v c.direct.new.times c.direct.result)
+    (rw c.place_of.ensures at c.direct.ensures.answers))

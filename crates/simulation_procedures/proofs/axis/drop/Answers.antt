@@ -1,5 +1,6 @@
+use Rattle.ring.specs.Rings.{made}
 use Rattle.simulation_procedures.proofs.Chained.{dropped_by}
 use Rattle.simulation_procedures.proofs.axis.drop.Goals as goal
 
-pub returns : goal.returns
-returns c = dropped_by _ _ _ _ _ _ _ _ c.wide.ensures c.unlink.ensures c.wide-2.ensures c.store.ensures
+pub returns-clause-left : goal.returns-clause-left
+returns-clause-left c = dropped_by _ _ _ _ _ _ (made _ _ _ c.unlink.ensures) c.store.ensures

@@ -1,5 +1,6 @@
+use Rattle.ring.specs.Rings.{made}
 use Rattle.simulation_procedures.proofs.Chained.{dropped_by}
 use Rattle.simulation_procedures.proofs.axis.drop_first.Goals as goal
 
-pub returns : goal.returns
-returns c = dropped_by _ _ _ _ _ _ _ _ c.wide.ensures c.unlink_behind.ensures c.wide-2.ensures c.set_time.ensures
+pub returns-clause-left : goal.returns-clause-left
+returns-clause-left c = dropped_by _ _ _ _ _ _ (made _ _ _ c.unlink_behind.ensures) c.set_time.ensures

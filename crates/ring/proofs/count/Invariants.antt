@@ -1,5 +1,0 @@
-use Rattle.ring.proofs.Counting.{Counting}
-use Rattle.ring.proofs.count.Given as goal
-
-abbrev pub invariant-loop-n : goal.invariant-loop-n
-invariant-loop-n l = Counting l.t l.m l.h l.most l.n l.i

@@ -1,0 +1,2 @@
+-- Rings as values.
+pub mod Rings
