@@ -1,4 +1,4 @@
-// The sequencing calls and accum of a record whose bytes begin at i, one for each operation that reads operands: an operand is resolved
+// The sequencing calls and accum of a record, one for each operation that reads operands: an operand is resolved
 // where its call uses it.
 ghost use Rattle.std.specs.Prelude.{◌≡◌, true, false, ◌+◌, ◌*◌, ◌≤◌, length};
 ghost use Rattle.model.specs.Counts.{limit, linkage_at};
@@ -18,93 +18,87 @@ use crate::reading::{x_of, y_of};
 use accum_update::flat::update_in;
 use model::answer::Answer;
 use model::{Counts, Refusal};
-use sheet::records::{clause_at, t_at, x_at, y_at};
+use sheet::records::RecordBytes;
 use simulation::steps::{activate, cancel, hold_now, wait, wait_known};
 
 pub fn hold_of(
     c: Counts,
-    sheet: &[u8],
-    i: usize,
+    call: RecordBytes<'_>,
     axis: &mut [u32],
     times: &mut [u64],
     f: u32,
     time: u64,
 ) -> Result<Answer, Refusal>
-    requires record_bytes_in_bounds { i + record_bytes ≤ length sheet.now }
     requires takeable { Takeable c axis.old times.old }
     requires noticed { Noticed (half c) f time axis.old times.old }
-    ensures { Answers (half c) (hold_step c (record_from sheet.now i).t (sqs axis.old times.old))
+    ensures { Answers (half c) (hold_step c (record_from call.entry.sheet.now call.entry.at).t (sqs axis.old times.old))
         axis.new times.new result }
 {
-    let t = t_at(sheet, i);
+    let t = call.t();
     hold_now(c, axis, times, f, time, t)
 }
 
 pub fn wait_of(
     c: Counts,
-    sheet: &[u8],
-    i: usize,
+    call: RecordBytes<'_>,
     links: &mut [u32],
     axis: &mut [u32],
     times: &mut [u64],
     f: u32,
     bounds: &mut [u32],
 ) -> Result<Answer, Refusal>
-    requires readable { Readable c sheet.now i links.old f (record_from sheet.now i).y }
+    requires readable { Readable c call.sheet.now call.at links.old f (record_from call.sheet.now call.at).y }
     requires takeable { Takeable c axis.old times.old }
     requires covers { Covers c 0 links.old bounds.old }
     ensures { WaitEntered c links.old (wait_step c (operand_with c false links.old f
-        (record_from sheet.now i).y) links.old (sqs axis.old times.old)) links.new
+        (record_from call.entry.sheet.now call.entry.at).y) links.old (sqs axis.old times.old)) links.new
         axis.new times.new bounds.new result }
 {
-    let y = y_of(c, sheet, i, links, f, false);
+    let y = y_of(c, call, links, f, false);
     wait(c, links, axis, times, y, bounds)
 }
 
 // Wait, where room is known.
 pub fn wait_known_of(
     c: Counts,
-    sheet: &[u8],
-    i: usize,
+    call: RecordBytes<'_>,
     links: &mut [u32],
     axis: &mut [u32],
     times: &mut [u64],
     f: u32,
 ) -> Result<Answer, Refusal>
-    requires readable { Readable c sheet.now i links.old f (record_from sheet.now i).y }
+    requires readable { Readable c call.sheet.now call.at links.old f (record_from call.sheet.now call.at).y }
     requires takeable { Takeable c axis.old times.old }
-    requires roomy { Roomy c links.old (linkage_at c (first_of (half c) axis.old)) (record_from sheet.now i).y }
-    ensures { WaitMade c (wait_step c (operand_with c false links.old f (record_from sheet.now i).y)
+    requires roomy { Roomy c links.old (linkage_at c (first_of (half c) axis.old)) (record_from call.sheet.now call.at).y }
+    ensures { WaitMade c (wait_step c (operand_with c false links.old f (record_from call.entry.sheet.now call.entry.at).y)
         links.old (sqs axis.old times.old)) links.new axis.new times.new
         result }
 {
-    let y = y_at(sheet, i);
+    let y = call.y();
     wait_known(c, links, axis, times, y)
 }
 
 pub fn cancel_of(
     c: Counts,
-    sheet: &[u8],
-    i: usize,
+    call: RecordBytes<'_>,
     links: &[u32],
     axis: &mut [u32],
     times: &mut [u64],
     f: u32,
 ) -> Result<Answer, Refusal>
-    requires readable { Readable c sheet.now i links.now f (record_from sheet.now i).x }
+    requires readable { Readable c call.sheet.now call.at links.now f (record_from call.sheet.now call.at).x }
     requires judged { Judged c axis.old }
-    ensures { Answers (half c) (cancel_step c (operand_with c true links.now f (record_from sheet.now i).x)
+    ensures { Answers (half c) (cancel_step c (operand_with c true links.now f (record_from call.entry.sheet.now call.entry.at).x)
         (sqs axis.old times.old)) axis.new times.new result }
 {
-    let process = x_of(c, sheet, i, links, f, true);
+    let process = x_of(c, call, links, f, true);
     cancel(c, axis, times, process)
 }
 
 // Activate, and again: reactivate.
 pub fn timed_of(
     c: Counts,
-    sheet: &[u8],
-    i: usize,
+    call: RecordBytes<'_>,
     links: &[u32],
     axis: &mut [u32],
     times: &mut [u64],
@@ -112,28 +106,27 @@ pub fn timed_of(
     f: u32,
     again: bool,
 ) -> Result<Answer, Refusal>
-    requires readable { Readable c sheet.now i links.now f (record_from sheet.now i).x }
-    requires readable_2 { Readable c sheet.now i links.now f (record_from sheet.now i).y }
+    requires readable { Readable c call.sheet.now call.at links.now f (record_from call.sheet.now call.at).x }
+    requires readable_2 { Readable c call.sheet.now call.at links.now f (record_from call.sheet.now call.at).y }
     requires judged { Judged c axis.old }
-    ensures { Answers (half c) (timed_step c again (record_from sheet.now i).clause
-        (operand_with c true links.now f (record_from sheet.now i).x)
-        (operand_with c true links.now f (record_from sheet.now i).y) (record_from sheet.now i).t
+    ensures { Answers (half c) (timed_step c again (record_from call.entry.sheet.now call.entry.at).clause
+        (operand_with c true links.now f (record_from call.entry.sheet.now call.entry.at).x)
+        (operand_with c true links.now f (record_from call.entry.sheet.now call.entry.at).y) (record_from call.entry.sheet.now call.entry.at).t
         marks.now (sqs axis.old times.old)) axis.new times.new result }
 {
-    let x = x_of(c, sheet, i, links, f, true);
-    let y = y_of(c, sheet, i, links, f, true);
-    let k = clause_at(sheet, i) as u32;
-    let t = t_at(sheet, i);
+    let x = x_of(c, call, links, f, true);
+    let y = y_of(c, call, links, f, true);
+    let k = call.clause() as u32;
+    let t = call.t();
     activate(c, axis, times, marks, again, k, x, y, t)
 }
 
-pub fn accum_of(sheet: &[u8], i: usize, accums: &mut [i64], time: u64) -> Result<Answer, Refusal>
-    requires record_bytes_in_bounds { i + record_bytes ≤ length sheet.now }
-    requires bound { (1 ≤ (record_from sheet.now i).x) × (3 * (record_from sheet.now i).x ≤ length accums.old) × (time ≤ limit) }
+pub fn accum_of(call: RecordBytes<'_>, accums: &mut [i64], time: u64) -> Result<Answer, Refusal>
+    requires bound { (1 ≤ (record_from call.sheet.now call.at).x) × (3 * (record_from call.sheet.now call.at).x ≤ length accums.old) × (time ≤ limit) }
     ensures { record { words = accums.new; answer = result }
-        ≡ updated_in (record_from sheet.now i).x time (record_from sheet.now i).t accums.old }
+        ≡ updated_in (record_from call.entry.sheet.now call.entry.at).x time (record_from call.entry.sheet.now call.entry.at).t accums.old }
 {
-    let k = x_at(sheet, i);
-    let t = t_at(sheet, i);
+    let k = call.x();
+    let t = call.t();
     update_in(accums, k, time, t)
 }

@@ -5,7 +5,6 @@ ghost use Rattle.model.specs.Counts.{total};
 ghost use Rattle.run_laws.specs.OnTables.{process_from, member_at};
 
 use model::Counts;
-use ring::wide;
 use simset::procedures::link_or;
 
 // The first process along a ring from v on, none where the head is reached. No ring has more than all linkages.
@@ -14,19 +13,15 @@ fn walk(c: Counts, links: &[u32], v: u32) -> u32
     requires v_bound { v < total c + 1 }
     ensures { result ≡ process_from c links.now (total c + 1) v }
 {
-    let mut k = c.total() + 1;
     let mut i = v;
-    while 0 < k {
-        let ok = c.is_process(i);
-        if ok {
+    for _ in 0..c.total() + 1 {
+        if c.is_process(i) {
             return i;
         }
         if i <= c.heads {
             return 0;
         }
-        let p = wide(i);
-        i = links[p];
-        k -= 1;
+        i = links[i as usize];
     }
     0
 }

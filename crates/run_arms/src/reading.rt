@@ -10,7 +10,8 @@ ghost use Rattle.run_laws.specs.Run.{record_got};
 
 use crate::members::member;
 use model::Counts;
-use sheet::records::{CURRENT, next_at, record_offset, x_at, y_at};
+use ring::Rings;
+use sheet::records::{CURRENT, RecordBytes, record_offset};
 use simulation_axis::{first, time_at};
 
 // Current's place in the axis.
@@ -18,7 +19,10 @@ pub fn place_now(c: Counts, axis: &[u32]) -> u32
     requires { Judged c axis.now }
     ensures { result ≡ first_of (half c) axis.now }
 {
-    first(axis, c.processes as usize + 2)
+    first(Rings {
+        words: axis,
+        m: c.processes as usize + 2,
+    })
 }
 
 // The time of the notice at a place.
@@ -64,7 +68,8 @@ pub fn next_of(sheet: &[u8], processes: u32, r: u32) -> u32
     if r == 0 {
         return 0;
     }
-    next_at(sheet, record_offset(processes, r))
+    let at = record_offset(processes, r);
+    RecordBytes { sheet, at }.next()
 }
 
 // The linkage that an operand stands for; f is current's place, and takes, where the operation takes a process.
@@ -82,17 +87,17 @@ pub fn operand(c: Counts, links: &[u32], f: u32, v: u32, takes: bool) -> u32
     member(c, links, (v - CURRENT) as usize, takes)
 }
 
-// What x, and y, stand for in the record whose bytes begin at i.
-pub fn x_of(c: Counts, sheet: &[u8], i: usize, links: &[u32], f: u32, takes: bool) -> u32
-    requires { Readable c sheet.now i links.now f (record_from sheet.now i).x }
-    ensures { result ≡ operand_with c takes links.now f (record_from sheet.now i).x }
+// What x, and y, stand for in a record.
+pub fn x_of(c: Counts, call: RecordBytes<'_>, links: &[u32], f: u32, takes: bool) -> u32
+    requires { Readable c call.sheet.now call.at links.now f (record_from call.sheet.now call.at).x }
+    ensures { result ≡ operand_with c takes links.now f (record_from call.entry.sheet.now call.entry.at).x }
 {
-    operand(c, links, f, x_at(sheet, i), takes)
+    operand(c, links, f, call.x(), takes)
 }
 
-pub fn y_of(c: Counts, sheet: &[u8], i: usize, links: &[u32], f: u32, takes: bool) -> u32
-    requires { Readable c sheet.now i links.now f (record_from sheet.now i).y }
-    ensures { result ≡ operand_with c takes links.now f (record_from sheet.now i).y }
+pub fn y_of(c: Counts, call: RecordBytes<'_>, links: &[u32], f: u32, takes: bool) -> u32
+    requires { Readable c call.sheet.now call.at links.now f (record_from call.sheet.now call.at).y }
+    ensures { result ≡ operand_with c takes links.now f (record_from call.entry.sheet.now call.entry.at).y }
 {
-    operand(c, links, f, y_at(sheet, i), takes)
+    operand(c, links, f, call.y(), takes)
 }

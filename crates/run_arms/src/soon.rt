@@ -13,15 +13,14 @@ use crate::reading::x_of;
 use crate::unless_refused;
 use model::{Counts, Refusal};
 use run_laws::Effect;
-use sheet::records::t_at;
+use sheet::records::RecordBytes;
 use simulation::soon::{activate_after, activate_now};
 use simulation::steps::process_or_none;
 
 // With no clause.
 pub fn direct_of(
     c: Counts,
-    sheet: &[u8],
-    i: usize,
+    call: RecordBytes<'_>,
     links: &[u32],
     axis: &mut [u32],
     times: &mut [u64],
@@ -29,14 +28,14 @@ pub fn direct_of(
     f: u32,
     time: u64,
 ) -> Result<Effect, Refusal>
-    requires callable { Callable c sheet.now i f (model_of links.now axis.old times.old marks.now) }
+    requires callable { Callable c call.sheet.now call.at f (model_of links.now axis.old times.old marks.now) }
     requires noticed { Noticed (half c) f time axis.old times.old }
-    requires i_value { ((record_from sheet.now i).operation ≡ 10) × ((record_from sheet.now i).clause ≡ 0) }
-    ensures { (known : Bool) → Leaves (λ w. tried c (record_from sheet.now i) f
+    requires i_value { ((record_from call.sheet.now call.at).operation ≡ 10) × ((record_from call.sheet.now call.at).clause ≡ 0) }
+    ensures { (known : Bool) → Leaves (λ w. tried c (record_from call.entry.sheet.now call.entry.at) f
         (model_of links.now axis.old times.old marks.now) w known)
         (model_of links.now axis.new times.new marks.now) result }
 {
-    let x = x_of(c, sheet, i, links, f, false);
+    let x = x_of(c, call, links, f, false);
     if !process_or_none(c, x) {
         return Ok(Effect::Apart);
     }
@@ -49,8 +48,7 @@ pub fn direct_of(
 // After a delay.
 pub fn delayed_of(
     c: Counts,
-    sheet: &[u8],
-    i: usize,
+    call: RecordBytes<'_>,
     links: &[u32],
     axis: &mut [u32],
     times: &mut [u64],
@@ -58,18 +56,18 @@ pub fn delayed_of(
     f: u32,
     time: u64,
 ) -> Result<Effect, Refusal>
-    requires callable { Callable c sheet.now i f (model_of links.now axis.old times.old marks.now) }
+    requires callable { Callable c call.sheet.now call.at f (model_of links.now axis.old times.old marks.now) }
     requires noticed { Noticed (half c) f time axis.old times.old }
-    requires i_value { ((record_from sheet.now i).operation ≡ 10) × ((record_from sheet.now i).clause ≡ 2) }
-    ensures { (known : Bool) → Leaves (λ w. tried c (record_from sheet.now i) f
+    requires i_value { ((record_from call.sheet.now call.at).operation ≡ 10) × ((record_from call.sheet.now call.at).clause ≡ 2) }
+    ensures { (known : Bool) → Leaves (λ w. tried c (record_from call.entry.sheet.now call.entry.at) f
         (model_of links.now axis.old times.old marks.now) w known)
         (model_of links.now axis.new times.new marks.now) result }
 {
-    let x = x_of(c, sheet, i, links, f, false);
+    let x = x_of(c, call, links, f, false);
     if !process_or_none(c, x) {
         return Ok(Effect::Apart);
     }
-    let t = t_at(sheet, i);
+    let t = call.t();
     unless_refused(
         activate_after(c, axis, times, marks, f, time, x, t),
         Effect::Moves,

@@ -14,7 +14,7 @@ use run_arms::arms::{cancel_of, timed_of, wait_of};
 use run_arms::set_arms::{clear_of, follow_of, into_of, precede_of};
 use run_arms::unless_refused;
 use run_laws::Effect;
-use sheet::records::{operation_at, record_offset};
+use sheet::records::{RecordBytes, record_offset};
 use simulation::steps::{finish, passivate};
 
 // Where the process is after an accepted call; next is its record's.
@@ -27,11 +27,10 @@ pub fn goes_to(e: Effect, next: u32) -> u32
     }
 }
 
-// The record whose bytes begin at i: an arm for each operation, and one for activate and reactivate. No accumulator is changed.
+// The record: an arm for each operation, and one for activate and reactivate. No accumulator is changed.
 fn apart_at(
     c: Counts,
-    sheet: &[u8],
-    i: usize,
+    call: RecordBytes<'_>,
     f: u32,
     links: &mut [u32],
     axis: &mut [u32],
@@ -39,28 +38,28 @@ fn apart_at(
     marks: &[u8],
     bounds: &mut [u32],
 ) -> Result<Effect, Refusal>
-    requires callable { Callable c sheet.now i f (model_of links.old axis.old times.old marks.now) }
-    requires i_value { apart (record_from sheet.now i) ≡ true }
+    requires callable { Callable c call.sheet.now call.at f (model_of links.old axis.old times.old marks.now) }
+    requires i_value { apart (record_from call.sheet.now call.at) ≡ true }
     requires covers { Covers c 0 links.old bounds.old }
-    ensures leaves { Leaves (performed c (record_from sheet.now i) f
+    ensures leaves { Leaves (performed c (record_from call.entry.sheet.now call.entry.at) f
         (model_of links.old axis.old times.old marks.now))
         (model_of links.new axis.new times.new marks.now) result }
     ensures covers_2 { Linking c links.old → Covers c 0 links.new bounds.new }
 {
-    let op = operation_at(sheet, i);
+    let op = call.operation();
     match op {
-        2 => unless_refused(follow_of(c, sheet, i, links, f, bounds), Effect::Stays),
-        3 => unless_refused(precede_of(c, sheet, i, links, f, bounds), Effect::Stays),
-        4 => unless_refused(into_of(c, sheet, i, links, f, bounds), Effect::Stays),
-        5 => unless_refused(clear_of(c, sheet, i, links, f), Effect::Stays),
+        2 => unless_refused(follow_of(c, call, links, f, bounds), Effect::Stays),
+        3 => unless_refused(precede_of(c, call, links, f, bounds), Effect::Stays),
+        4 => unless_refused(into_of(c, call, links, f, bounds), Effect::Stays),
+        5 => unless_refused(clear_of(c, call, links, f), Effect::Stays),
         7 => unless_refused(passivate(c, axis, times), Effect::Moves),
         8 => unless_refused(
-            wait_of(c, sheet, i, links, axis, times, f, bounds),
+            wait_of(c, call, links, axis, times, f, bounds),
             Effect::Moves,
         ),
-        9 => unless_refused(cancel_of(c, sheet, i, links, axis, times, f), Effect::Moves),
+        9 => unless_refused(cancel_of(c, call, links, axis, times, f), Effect::Moves),
         _ => unless_refused(
-            timed_of(c, sheet, i, links, axis, times, marks, f, op == 11),
+            timed_of(c, call, links, axis, times, marks, f, op == 11),
             Effect::Moves,
         ),
     }
@@ -91,6 +90,7 @@ pub fn perform_apart(
     if r == 0 {
         return unless_refused(finish(c, axis, times, marks), Effect::Moves);
     }
-    let i = record_offset(c.processes, r);
-    apart_at(c, sheet, i, f, links, axis, times, marks, bounds)
+    let at = record_offset(c.processes, r);
+    let call = RecordBytes { sheet, at };
+    apart_at(c, call, f, links, axis, times, marks, bounds)
 }

@@ -14,29 +14,28 @@ use run_arms::set_arms::{into_known_of, out_of, room_of};
 use run_arms::soon::{delayed_of, direct_of};
 use run_arms::unless_refused;
 use run_laws::Effect;
-use sheet::records::{clause_at, operation_at, record_offset, x_at, y_at};
+use sheet::records::{RecordBytes, record_offset};
 
 // 12: x is a head, or refusal 3; where it is empty, the process goes to y. No operand but a head's number stands for a head.
-fn branch(c: Counts, sheet: &[u8], i: usize, links: &[u32], f: u32) -> Result<Effect, Refusal>
-    requires readable { Readable c sheet.now i links.now f (record_from sheet.now i).x }
+fn branch(c: Counts, call: RecordBytes<'_>, links: &[u32], f: u32) -> Result<Effect, Refusal>
+    requires readable { Readable c call.sheet.now call.at links.now f (record_from call.sheet.now call.at).x }
     requires f_nonzero { 0 < f }
-    ensures { result ≡ branched c (record_from sheet.now i) f links.now }
+    ensures { result ≡ branched c (record_from call.entry.sheet.now call.entry.at) f links.now }
 {
-    let x = x_at(sheet, i);
+    let x = call.x();
     if !c.is_head(x) {
         return Err(Refusal::Operand);
     }
     if links[x as usize] == x {
-        return Ok(Effect::Jumps(y_at(sheet, i)));
+        return Ok(Effect::Jumps(call.y()));
     }
     Ok(Effect::Stays)
 }
 
-// The record whose bytes begin at i: an arm for each operation that is made here.
+// The record: an arm for each operation that is made here.
 fn perform_at(
     c: Counts,
-    sheet: &[u8],
-    i: usize,
+    call: RecordBytes<'_>,
     f: u32,
     time: u64,
     links: &mut [u32],
@@ -46,49 +45,46 @@ fn perform_at(
     accums: &mut [i64],
     bounds: &mut [u32],
 ) -> Result<Effect, Refusal>
-    requires performable { Performable c sheet.now i f time (model_of links.old axis.old times.old marks.now) accums.old }
+    requires performable { Performable c call.sheet.now call.at f time (model_of links.old axis.old times.old marks.now) accums.old }
     requires covers { Covers c 0 links.old bounds.old }
     ensures result_after { record {
       tables = model_of links.new axis.new times.new marks.now;
       words = accums.new;
       effect = result;
     }
-        ≡ tried c (record_from sheet.now i) f (model_of links.old axis.old times.old
+        ≡ tried c (record_from call.entry.sheet.now call.entry.at) f (model_of links.old axis.old times.old
         marks.now) accums.old
-        (room_known c (record_from sheet.now i) bounds.old) }
+        (room_known c (record_from call.entry.sheet.now call.entry.at) bounds.old) }
     ensures covers_2 { Linking c links.old → Covers c 0 links.new bounds.new }
 {
-    let op = operation_at(sheet, i);
+    let op = call.operation();
     match op {
-        1 => unless_refused(out_of(c, sheet, i, links, f), Effect::Stays),
+        1 => unless_refused(out_of(c, call, links, f), Effect::Stays),
         4 => {
-            if !room_of(c, sheet, i, bounds) {
+            if !room_of(c, call, bounds) {
                 return Ok(Effect::Apart);
             }
-            unless_refused(into_known_of(c, sheet, i, links, f), Effect::Stays)
+            unless_refused(into_known_of(c, call, links, f), Effect::Stays)
         }
-        6 => unless_refused(hold_of(c, sheet, i, axis, times, f, time), Effect::Moves),
+        6 => unless_refused(hold_of(c, call, axis, times, f, time), Effect::Moves),
         8 => {
-            if !room_of(c, sheet, i, bounds) {
+            if !room_of(c, call, bounds) {
                 return Ok(Effect::Apart);
             }
-            unless_refused(
-                wait_known_of(c, sheet, i, links, axis, times, f),
-                Effect::Moves,
-            )
+            unless_refused(wait_known_of(c, call, links, axis, times, f), Effect::Moves)
         }
         10 => {
-            let k = clause_at(sheet, i);
+            let k = call.clause();
             if k == 2 {
-                return delayed_of(c, sheet, i, links, axis, times, marks, f, time);
+                return delayed_of(c, call, links, axis, times, marks, f, time);
             }
             if k == 0 {
-                return direct_of(c, sheet, i, links, axis, times, marks, f, time);
+                return direct_of(c, call, links, axis, times, marks, f, time);
             }
             Ok(Effect::Apart)
         }
-        12 => branch(c, sheet, i, links, f),
-        13 => unless_refused(accum_of(sheet, i, accums, time), Effect::Stays),
+        12 => branch(c, call, links, f),
+        13 => unless_refused(accum_of(call, accums, time), Effect::Stays),
         _ => Ok(Effect::Apart),
     }
 }
@@ -123,8 +119,7 @@ pub fn perform(
     if r == 0 {
         return Ok(Effect::Apart);
     }
-    let i = record_offset(c.processes, r);
-    perform_at(
-        c, sheet, i, f, time, links, axis, times, marks, accums, bounds,
-    )
+    let at = record_offset(c.processes, r);
+    let call = RecordBytes { sheet, at };
+    perform_at(c, call, f, time, links, axis, times, marks, accums, bounds)
 }

@@ -2,7 +2,6 @@
 ghost use Rattle.std.specs.Prelude.{◌≡◌, ◌+◌, ◌≤◌, length};
 ghost use Rattle.sheet.specs.Sheet.{start_offset, start_at, record_offset, record_from, record_bytes};
 
-use ring::wide;
 use words::{i64_at, u8_at, u32_at};
 
 // Bytes of the header, and of a record.
@@ -29,71 +28,67 @@ pub fn record_offset(processes: u32, r: u32) -> usize
     requires { 1 ≤ r }
     ensures { result ≡ record_offset processes r }
 {
-    HEADER_BYTES + 4 * wide(processes) + RECORD_BYTES * (wide(r) - 1)
+    HEADER_BYTES + 4 * processes as usize + RECORD_BYTES * (r as usize - 1)
 }
 
-// ---- the fields of the record whose 24 bytes begin at i
-
-pub fn next_at(sheet: &[u8], i: usize) -> u32
-    requires { i + record_bytes ≤ length sheet.now }
-    ensures { result ≡ (record_from sheet.now i).next }
-{
-    u32_at(sheet, i)
+// A record's 24 bytes where they lie in a sheet. Whoever writes one down proves that they lie within it.
+#[derive(Clone, Copy)]
+pub struct RecordBytes<'a> {
+    pub sheet: &'a [u8],
+    pub at: usize,
+    pub ghost inside: { at + record_bytes ≤ length sheet.now },
 }
 
-pub fn operation_at(sheet: &[u8], i: usize) -> u8
-    requires { i + record_bytes ≤ length sheet.now }
-    ensures { result ≡ (record_from sheet.now i).operation }
-{
-    u8_at(sheet, i + 4)
-}
+#[tactic(auto, unfolding(crate::specs::Sheet::record_from))]
+impl RecordBytes<'_> {
+    pub fn next(self) -> u32
+        ensures { result ≡ (record_from self.entry.sheet.now self.entry.at).next }
+    {
+        u32_at(self.sheet, self.at)
+    }
 
-pub fn clause_at(sheet: &[u8], i: usize) -> u8
-    requires { i + record_bytes ≤ length sheet.now }
-    ensures { result ≡ (record_from sheet.now i).clause }
-{
-    u8_at(sheet, i + 5)
-}
+    pub fn operation(self) -> u8
+        ensures { result ≡ (record_from self.entry.sheet.now self.entry.at).operation }
+    {
+        u8_at(self.sheet, self.at + 4)
+    }
 
-pub fn x_at(sheet: &[u8], i: usize) -> u32
-    requires { i + record_bytes ≤ length sheet.now }
-    ensures { result ≡ (record_from sheet.now i).x }
-{
-    u32_at(sheet, i + 8)
-}
+    pub fn clause(self) -> u8
+        ensures { result ≡ (record_from self.entry.sheet.now self.entry.at).clause }
+    {
+        u8_at(self.sheet, self.at + 5)
+    }
 
-pub fn y_at(sheet: &[u8], i: usize) -> u32
-    requires { i + record_bytes ≤ length sheet.now }
-    ensures { result ≡ (record_from sheet.now i).y }
-{
-    u32_at(sheet, i + 12)
-}
+    pub fn x(self) -> u32
+        ensures { result ≡ (record_from self.entry.sheet.now self.entry.at).x }
+    {
+        u32_at(self.sheet, self.at + 8)
+    }
 
-pub fn t_at(sheet: &[u8], i: usize) -> i64
-    requires { i + record_bytes ≤ length sheet.now }
-    ensures { result ≡ (record_from sheet.now i).t }
-{
-    i64_at(sheet, i + 16)
-}
+    pub fn y(self) -> u32
+        ensures { result ≡ (record_from self.entry.sheet.now self.entry.at).y }
+    {
+        u32_at(self.sheet, self.at + 12)
+    }
 
-// All of them.
-pub fn record_from(sheet: &[u8], i: usize) -> Record
-    requires { i + record_bytes ≤ length sheet.now }
-    ensures { result ≡ record_from sheet.now i }
-{
-    let next = next_at(sheet, i);
-    let operation = operation_at(sheet, i);
-    let clause = clause_at(sheet, i);
-    let x = x_at(sheet, i);
-    let y = y_at(sheet, i);
-    let t = t_at(sheet, i);
-    Record {
-        next,
-        operation,
-        clause,
-        x,
-        y,
-        t,
+    pub fn t(self) -> i64
+        ensures { result ≡ (record_from self.entry.sheet.now self.entry.at).t }
+    {
+        i64_at(self.sheet, self.at + 16)
+    }
+
+    // All of them.
+    pub fn record(self) -> Record
+        ensures { result ≡ record_from self.entry.sheet.now self.entry.at }
+    {
+        Record {
+            next: self.next(),
+            operation: self.operation(),
+            clause: self.clause(),
+            x: self.x(),
+            y: self.y(),
+            t: self.t(),
+        }
     }
 }
 

@@ -7,7 +7,7 @@ use crate::fields::record_fine;
 use crate::header::read_header;
 use model::Refusal;
 use sheet::header::Header;
-use sheet::records::{record_from, record_offset, start_at};
+use sheet::records::{RecordBytes, record_offset, start_at};
 use words::u8_at;
 
 // The two bytes between a record's clause and its x.
@@ -27,7 +27,7 @@ fn layout_fine(sheet: &[u8], header: Header, r: u32) -> bool
     ensures { result ≡ layout_fine sheet.now header r }
 {
     let i = record_offset(header.counts.processes, r);
-    pad_fine(sheet, i) && record_fine(header, record_from(sheet, i))
+    pad_fine(sheet, i) && record_fine(header, RecordBytes { sheet, at: i }.record())
 }
 
 // Starts are 0 to R.

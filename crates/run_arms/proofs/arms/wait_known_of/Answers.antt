@@ -5,4 +5,4 @@ use native.Mathlib.Omega.{arith}
 use Rattle.run_arms.proofs.arms.wait_known_of.Goals as goal
 
 pub returns : goal.returns
-returns c = made_as c.args.c _ _ _ _ _ _ _ _ (c.y_at-y.ensures ∙ operand_low c.args.c _ _ _ c.requires.readable.resolvable _ (omega (arith, c.requires.roomy.head))) c.wait_known.ensures
+returns c = made_as c.args.c _ _ _ _ _ _ _ _ (c.y-y.ensures ∙ operand_low c.args.c _ _ _ c.requires.readable.resolvable _ (omega (arith, c.requires.roomy.head))) c.wait_known.ensures

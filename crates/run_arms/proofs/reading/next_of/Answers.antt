@@ -7,4 +7,4 @@ pub returns-then-r-eq0 : goal.returns-then-r-eq0
 returns-then-r-eq0 c = ap (λ (q : Record). q.next) (got_end _ _ _ c.if-r-eq0.true)
 
 pub returns : goal.returns
-returns c = got_next _ _ _ c.if-r-eq0.false _ _ c.record_offset.ensures c.next_at.ensures
+returns c = got_next _ _ _ c.if-r-eq0.false _ _ c.record_offset-at.ensures c.next.ensures

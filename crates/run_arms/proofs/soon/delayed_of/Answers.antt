@@ -9,4 +9,4 @@ pub returns-then-not-process_or_none : goal.returns-then-not-process_or_none
 returns-then-not-process_or_none c = λ known w. soon_left _ _ _ _ _ _ _ w known c.requires.i_value.0 _ c.x_of-x.ensures _ c.process_or_none.ensures (ap not c.if-not-process_or_none.true)
 
 pub returns : goal.returns
-returns c = λ known w. soon_delayed _ _ _ _ _ _ _ w known c.requires.i_value.0 _ c.x_of-x.ensures _ c.process_or_none.ensures (ap not c.if-not-process_or_none.false) _ _ _ _ c.unless_refused.ensures c.requires.i_value.1 (rw (to_z-of_z w64 _ (record { sfits = c.t_at-t.type_inv }) ∙ c.t_at-t.ensures) at c.activate_after.ensures)
+returns c = λ known w. soon_delayed _ _ _ _ _ _ _ w known c.requires.i_value.0 _ c.x_of-x.ensures _ c.process_or_none.ensures (ap not c.if-not-process_or_none.false) _ _ _ _ c.unless_refused.ensures c.requires.i_value.1 (rw (to_z-of_z w64 _ (record { sfits = c.t-t.type_inv }) ∙ c.t-t.ensures) at c.activate_after.ensures)

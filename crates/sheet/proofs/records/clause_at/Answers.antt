@@ -1,6 +1,0 @@
-use Rattle.sheet.specs.Sheet.{record_from}
-use Rattle.sheet.proofs.records.clause_at.Goals as goal
-
-pub returns : goal.returns
-unfolding record_from
-returns c = c.u8_at.ensures
