@@ -50,7 +50,7 @@ impl<R: Read, W: Write> Flow<R, W> {
         self.at = 0;
     }
 
-    // Reads until n bytes stand in front of `end`, the input ends, or a read fails.
+    // Reads until n bytes stand in front of `end`, the input ends, or a read fails. No `for`: it goes on by what a read returned.
     fn read_up_to(&mut self, n: usize) {
         while self.end < n {
             let k = self.streams.read(&mut self.input[self.end..]);

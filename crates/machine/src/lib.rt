@@ -3,7 +3,7 @@
 
 use model::Refusal;
 
-// How a run ends.
+// How a run ends: document 01 and demand 3 name these three, so this is no Result.
 #[derive(Clone, Copy)]
 pub enum End {
     // Main was current at position 0.

@@ -31,7 +31,7 @@ pub enum Effect {
     Apart,
 }
 
-// Why a stretch of turns ends.
+// Why a stretch of turns ends. No Result: each case stands beside the byte that was reached.
 #[derive(Clone, Copy)]
 pub enum Pause {
     // The trace has no room for a line more.

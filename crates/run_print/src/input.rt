@@ -12,6 +12,7 @@ pub(crate) fn read_full<R: Read>(reader: &mut R, buf: &mut [u8]) -> io::Result<u
     ensures whole { IfOk result (λ n. n < length buf.old → IsAtEnd (R.remaining reader.new)) }
 {
     let mut done = 0;
+    // no `for`: it goes on by what a read returned
     while done < buf.len() {
         let n = reader.read(&mut buf[done..])?;
         if n == 0 {

@@ -50,6 +50,7 @@ pub fn stretch(
     let mut f = place_now(c, axis);
     let mut time = time_of(times, f);
     let mut r = record_of(positions, f);
+    // no `for`: the byte that is reached when a turn pauses it is the answer
     while at < stop {
         match perform(
             c, sheet, r, f, time, links, axis, times, marks, accums, bounds,

@@ -43,6 +43,7 @@ pub fn turns(
     let end = trace.len();
     let stop = past_last(end);
     let mut at = 0;
+    // no `for`: a stretch goes on by as many lines as it writes
     while at < stop {
         let s = stretch(
             c,

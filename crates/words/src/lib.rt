@@ -1,4 +1,5 @@
-// Little-endian words in a lent slice of bytes. Core functions: the caller knows that the word lies within the slice.
+// Little-endian words in a lent slice of bytes: a reader for each definition in specs/, a line each, so none stands for the others.
+// Core functions: the caller knows that the word lies within the slice.
 #![tactic(auto)]
 
 ghost use Rattle.std.specs.Prelude.{◌≡◌, ◌+◌, ◌≤◌, length};
