@@ -58,9 +58,12 @@ pub fn move_on(
 }
 
 // An accepted call means e.
-pub fn unless_refused(a: Result<Answer, Refusal>, e: Effect) -> Result<Effect, Refusal>
-    ensures { result ≡ unless_refused a (Ok e) }
+pub fn unless_refused(
+    a: Result<Answer, Refusal>,
+    e: Result<Effect, Refusal>,
+) -> Result<Effect, Refusal>
+    ensures { result ≡ unless_refused a e }
 {
     a?;
-    Ok(e)
+    e
 }

@@ -41,7 +41,7 @@ pub fn direct_of(
     }
     unless_refused(
         activate_now(c, axis, times, marks, f, time, x),
-        Effect::Moves,
+        Ok(Effect::Moves),
     )
 }
 
@@ -70,6 +70,6 @@ pub fn delayed_of(
     let t = call.t();
     unless_refused(
         activate_after(c, axis, times, marks, f, time, x, t),
-        Effect::Moves,
+        Ok(Effect::Moves),
     )
 }

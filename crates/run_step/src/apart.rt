@@ -18,12 +18,12 @@ use sheet::records::{RecordBytes, record_offset};
 use simulation::steps::{finish, passivate};
 
 // Where the process is after an accepted call; next is its record's.
-pub fn goes_to(e: Effect, next: u32) -> u32
-    ensures { result ≡ goes_to (Ok e) next }
+pub fn goes_to(e: Result<Effect, Refusal>, next: u32) -> u32
+    ensures { result ≡ goes_to e next }
 {
     match e {
-        Effect::Jumps(y) => y,
-        Effect::Stays | Effect::Moves | Effect::Apart => next,
+        Ok(Effect::Jumps(y)) => y,
+        Ok(Effect::Stays | Effect::Moves | Effect::Apart) | Err(_) => next,
     }
 }
 
@@ -48,19 +48,19 @@ fn apart_at(
 {
     let op = call.operation();
     match op {
-        2 => unless_refused(follow_of(c, call, links, f, bounds), Effect::Stays),
-        3 => unless_refused(precede_of(c, call, links, f, bounds), Effect::Stays),
-        4 => unless_refused(into_of(c, call, links, f, bounds), Effect::Stays),
-        5 => unless_refused(clear_of(c, call, links, f), Effect::Stays),
-        7 => unless_refused(passivate(c, axis, times), Effect::Moves),
+        2 => unless_refused(follow_of(c, call, links, f, bounds), Ok(Effect::Stays)),
+        3 => unless_refused(precede_of(c, call, links, f, bounds), Ok(Effect::Stays)),
+        4 => unless_refused(into_of(c, call, links, f, bounds), Ok(Effect::Stays)),
+        5 => unless_refused(clear_of(c, call, links, f), Ok(Effect::Stays)),
+        7 => unless_refused(passivate(c, axis, times), Ok(Effect::Moves)),
         8 => unless_refused(
             wait_of(c, call, links, axis, times, f, bounds),
-            Effect::Moves,
+            Ok(Effect::Moves),
         ),
-        9 => unless_refused(cancel_of(c, call, links, axis, times, f), Effect::Moves),
+        9 => unless_refused(cancel_of(c, call, links, axis, times, f), Ok(Effect::Moves)),
         _ => unless_refused(
             timed_of(c, call, links, axis, times, marks, f, op == 11),
-            Effect::Moves,
+            Ok(Effect::Moves),
         ),
     }
 }
@@ -88,7 +88,7 @@ pub fn perform_apart(
     ensures covers_2 { Linking c links.old → Covers c 0 links.new bounds.new }
 {
     if r == 0 {
-        return unless_refused(finish(c, axis, times, marks), Effect::Moves);
+        return unless_refused(finish(c, axis, times, marks), Ok(Effect::Moves));
     }
     let at = record_offset(c.processes, r);
     let call = RecordBytes { sheet, at };

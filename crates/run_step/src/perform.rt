@@ -59,19 +59,22 @@ fn perform_at(
 {
     let op = call.operation();
     match op {
-        1 => unless_refused(out_of(c, call, links, f), Effect::Stays),
+        1 => unless_refused(out_of(c, call, links, f), Ok(Effect::Stays)),
         4 => {
             if !room_of(c, call, bounds) {
                 return Ok(Effect::Apart);
             }
-            unless_refused(into_known_of(c, call, links, f), Effect::Stays)
+            unless_refused(into_known_of(c, call, links, f), Ok(Effect::Stays))
         }
-        6 => unless_refused(hold_of(c, call, axis, times, f, time), Effect::Moves),
+        6 => unless_refused(hold_of(c, call, axis, times, f, time), Ok(Effect::Moves)),
         8 => {
             if !room_of(c, call, bounds) {
                 return Ok(Effect::Apart);
             }
-            unless_refused(wait_known_of(c, call, links, axis, times, f), Effect::Moves)
+            unless_refused(
+                wait_known_of(c, call, links, axis, times, f),
+                Ok(Effect::Moves),
+            )
         }
         10 => {
             let k = call.clause();
@@ -84,7 +87,7 @@ fn perform_at(
             Ok(Effect::Apart)
         }
         12 => branch(c, call, links, f),
-        13 => unless_refused(accum_of(call, accums, time), Effect::Stays),
+        13 => unless_refused(accum_of(call, accums, time), Ok(Effect::Stays)),
         _ => Ok(Effect::Apart),
     }
 }

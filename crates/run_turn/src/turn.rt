@@ -52,7 +52,7 @@ pub fn turn_apart(
     }
     let time = time_of(times, f);
     let e = perform_apart(c, sheet, r, f, links, axis, times, marks, bounds)?;
-    let next = goes_to(e, next_of(sheet, c.processes, r));
+    let next = goes_to(Ok(e), next_of(sheet, c.processes, r));
     move_on(c, positions, trace, f, time, r, i, next);
     Ok(Turn::Made)
 }
