@@ -12,7 +12,7 @@ ROOT = os.path.dirname(os.path.dirname(os.path.dirname(os.path.abspath(__file__)
 # searched whole: the trace writer, the step's write, the loop and its turns, the run call, the C edge and the printing program
 CRATES = ['trace', 'run_turn', 'run_turns', 'run_judge', 'run', 'host', 'run_print']
 FILES = ['crates/run_arms/src/lib.rt', 'crates/calls/src/turn_call.rt']
-# the program for tests has tables of its own to lay out, and writes no line
+# the program for tests has tables of its own to lay out, and writes no line: of its files those count that know what a line takes
 TESTING = ['calls', 'calls_served']
 
 NO_CODE = re.compile(r"""//[^\n]*|"(?:\\.|[^"\\])*"|b'(?:\\.|[^'\\])'|ghost\s+use\s[^;]*;""")
@@ -72,8 +72,9 @@ def searched():
         name = os.path.relpath(path, ROOT)
         crate = name.split(os.sep)[1]
         with open(path, encoding='utf-8') as source:
-            traced = re.search(r'\btrace\b|\bLINE_BYTES\b|\bTRACE_LIMIT\b', code(source.read()))
-        if crate in CRATES or (traced and crate not in TESTING):
+            text = code(source.read())
+        traced = re.search(r'\bLINE_BYTES\b' if crate in TESTING else r'\btrace\b|\bLINE_BYTES\b|\bTRACE_LIMIT\b', text)
+        if crate in CRATES or traced:
             found.add(name)
     return sorted(found)
 

@@ -12,7 +12,6 @@ use run_answer::end_code;
 use run_laws::Ran;
 use sheet_check::check::check;
 use simula::{query, sequencing_call, set_call};
-use trace::LINE_BYTES;
 
 fn judged(judged: Result<(), Refusal>) -> Reply {
     match judged {
@@ -50,7 +49,7 @@ pub(crate) fn answer(
     trace: &mut [u8],
 ) -> Reply {
     let c = head.counts;
-    let one_line = LINE_BYTES <= trace.len() && trace.len() < 2 * LINE_BYTES;
+    let one_line = turn_call::has_one_line(trace.len());
     match call {
         Call::Judge => judged(judge_tables(c, links, axis, times, marks)),
         Call::Set(k) => answered(set_call(c, links, axis, times, marks, k)),

@@ -1,4 +1,7 @@
 // The calls of a request's number and operands (docs/CALLS.md), as values.
+ghost use Rattle.std.specs.Prelude.{◌≡◌, eqb};
+ghost use Rattle.calls.specs.Calls.{is_turn};
+
 use calls_served::head::Head;
 use model::call::{Query, SequencingCall, SetCall};
 
@@ -32,8 +35,10 @@ pub(crate) enum Call {
 }
 
 impl Call {
-    // Which call a request is, if there is such a call.
-    pub(crate) fn of(head: Head) -> Option<Call> {
+    // Which call a request is, if there is such a call; 43 alone may be made by one turn.
+    pub(crate) fn of(head: Head) -> Option<Call>
+        ensures { is_turn result ≡ eqb head.call 43 }
+    {
         let x = head.x;
         let y = head.y;
         let t = head.t;

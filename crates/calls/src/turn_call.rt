@@ -1,5 +1,5 @@
 // A run call with room for just one line, made by one turn.
-ghost use Rattle.std.specs.Prelude.{◌≤◌, length};
+ghost use Rattle.std.specs.Prelude.{◌≡◌, ◌≤◌, ◌*◌, ◌&&◌, length, leb, ltb};
 ghost use Rattle.machine.specs.Run.{line_size};
 
 use machine::End;
@@ -9,6 +9,14 @@ use run_judge::judge_run;
 use run_laws::{Ran, Turn};
 use run_turn::turn::turn;
 use sheet_check::check::check;
+use trace::LINE_BYTES;
+
+// Is there room for one line, and for no more?
+pub(crate) fn has_one_line(len: usize) -> bool
+    ensures { result ≡ (leb line_size len && ltb len (2 * line_size)) }
+{
+    LINE_BYTES <= len && len < LINE_BYTES + LINE_BYTES
+}
 
 // Refusals 8, 1 and 2, then one turn.
 fn one_turn(
