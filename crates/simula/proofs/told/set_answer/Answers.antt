@@ -11,6 +11,5 @@ returns-in_err-set_step c =
     (passed_on _ _ c.from_residual.ensures.1 ∙ sym (ap (λ (a : Answered). if_accepted a c.set_told-told.result) c.in_err-set_step.was))
 
 pub returns : goal.returns
-returns c =
-    moved_telling _ c.args.c c.args.call _ _ _ _ _ c.set_told-told.ensures c.set_step.ensures
+returns c = moved_telling _ c.args.c c.args.call _ _ _ _ _ c.set_told-told.ensures c.set_step.ensures
     (sym (ap (λ (a : Answered). if_accepted a c.set_told-told.result) c.in_ok-set_step.was))
