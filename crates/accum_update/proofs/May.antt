@@ -1,6 +1,6 @@
 -- The test of an update, told by its joined tests: what && gives step by step is what the definition says.
 use Rattle.std.specs.Prelude.{ℕ, ◌*◌, ◌≡◌, refl, Bool, true, false, ◌&&◌, leb, ℤ, pos, nat_abs, ◌+ℤ◌}
-use Rattle.std.proofs.Common.{sym, ◌∙◌, ap, arith, SFits, w64, to_z, of_z, leb-true, ◌⊎◌, inl, inr}
+use Rattle.std.proofs.Common.{sym, ◌∙◌, ap, arith, SFits, w64, to_z, of_z, leb-true}
 use borrow.Author.Tests.{lt-leb, leb-false}
 use Rattle.std.specs.Int.Signed.{le_z}
 use Rattle.model.specs.Counts.{both}
@@ -13,11 +13,6 @@ and_true p v t e f = rw e f
 
 pub and_false : (p v t : Bool) → p ≡ false → v ≡ p → v ≡ p && t
 and_false p v t e f = rw e (f ∙ e)
-
-pub and_neither : (p t : Bool) → p ≡ false ⊎ t ≡ false → p && t ≡ false
-and_neither p t (inl e) = rw e
-and_neither false t (inr e) = refl
-and_neither true t (inr e) = e
 
 -- the sign of a stored word
 pub kept_sign : {z : ℤ} {v : Bool} → SFits w64 z → le_z (pos 0) (to_z w64 (of_z w64 z)) ≡ v → le_z (pos 0) z ≡ v

@@ -10,14 +10,14 @@ use model::Refusal;
 const RATE_LIMIT: u64 = 1000000;
 
 // Is the accumulator as required, and will it be? A d beyond twice the limit is refused before c + d is formed, which so fits a word.
+// b's sign is asked first, so that its absolute value is b.
 fn may_update(x: Accumulator, time: u64, d: i64) -> bool
     requires { time ≤ limit }
     ensures { result ≡ may_update x time d }
 {
-    let since = x.b.unsigned_abs();
     x.b >= 0
-        && since <= time
-        && x.a.unsigned_abs() <= RATE_LIMIT * since
+        && x.b.unsigned_abs() <= time
+        && x.a.unsigned_abs() <= RATE_LIMIT * x.b.unsigned_abs()
         && x.c.unsigned_abs() <= RATE_LIMIT
         && d.unsigned_abs() <= 2 * RATE_LIMIT
         && (x.c + d).unsigned_abs() <= RATE_LIMIT

@@ -73,7 +73,8 @@ pub(crate) fn place_for(axis: Rings<'_>, times: &[u64], k: u8, y: u32, time: u64
     seek(axis, times, u)
 }
 
-// X's old notice goes, and the new one stands where the clause says.
+// X's old notice goes, and the new one stands where the clause says. Called, it would put the axis into memory in the two short ways.
+#[inline(always)]
 pub fn schedule(
     axis: &mut RingsMut<'_>,
     times: &mut [u64],
@@ -96,7 +97,30 @@ pub fn schedule(
     put(axis, times, x, q, u);
 }
 
-// Activate, and again: reactivate; x and y are places, 0 for none.
+// The same, called: where any clause may come, the search has registers of its own.
+#[inline(never)]
+fn schedule_apart(
+    axis: &mut RingsMut<'_>,
+    times: &mut [u64],
+    k: u8,
+    x: u32,
+    y: u32,
+    time: u64,
+    u: u64,
+)
+    requires x_lt_m { x < axis.old.m }
+    requires y_lt_m { y < axis.old.m }
+    requires m_bound { axis.old.m ≤ 1026 }
+    requires u_le_limit { u ≤ limit }
+    ensures left { Left axis.old.m (put_by_clause axis.old.m k x y time u (sqs axis.old.words.now times.old)) axis.new.words.now
+        times.new }
+    ensures kept { Kept axis.old axis.new }
+{
+    schedule(axis, times, k, x, y, time, u);
+}
+
+// Activate, and again: reactivate; x and y are places, 0 for none. Called, so that a run's loop has its registers for the short ways.
+#[inline(never)]
 pub fn activate(
     axis: &mut RingsMut<'_>,
     times: &mut [u64],
@@ -126,7 +150,7 @@ pub fn activate(
     if beside_idle(now, k, y) {
         return cancel(axis, times, x);
     }
-    schedule(axis, times, k, x, y, time, u);
+    schedule_apart(axis, times, k, x, y, time, u);
     Ok(Answer::Done)
 }
 

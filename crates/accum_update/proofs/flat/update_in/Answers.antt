@@ -4,7 +4,6 @@ use Rattle.accum_laws.specs.Signed.{kept}
 use Rattle.accum_laws.specs.Update.{updated_of}
 use Rattle.accum_laws.proofs.Flat.{in_to, in_not}
 use Rattle.model.specs.Passed.{passed_on}
-use Rattle.accum_laws.specs.Flat.{Changed}
 use Rattle.model.specs.Answers.{Answered}
 use Rattle.accum_update.proofs.flat.update_in.Goals as goal
 

@@ -11,4 +11,4 @@ pub returns-then-beside_idle-clause-answers : goal.returns-then-beside_idle-clau
 returns-then-beside_idle-clause-answers c = active_idle _ _ _ _ _ _ _ _ _ _ (rw c.reading-now.ensures.0 at c.is_vain.ensures) c.if-is_vain.false _ _ _ (rw (c.reading-now.ensures.1, c.reading-now.ensures.0) at c.first.ensures) c.due-time.ensures c.due_at-u.ensures c.if-u-gt-TIME_LIMIT.false _ (rw c.reading-now.ensures.0 at c.beside_idle.ensures) _ _ _ c.if-beside_idle.true c.cancel.ensures.answers
 
 pub returns-clause-answers : goal.returns-clause-answers
-returns-clause-answers c = active_0 _ _ _ _ _ _ _ _ _ _ (rw c.reading-now.ensures.0 at c.is_vain.ensures) c.if-is_vain.false _ _ _ (rw (c.reading-now.ensures.1, c.reading-now.ensures.0) at c.first.ensures) c.due-time.ensures c.due_at-u.ensures c.if-u-gt-TIME_LIMIT.false _ (rw c.reading-now.ensures.0 at c.beside_idle.ensures) _ _ c.if-beside_idle.false c.schedule.ensures.left
+returns-clause-answers c = active_0 _ _ _ _ _ _ _ _ _ _ (rw c.reading-now.ensures.0 at c.is_vain.ensures) c.if-is_vain.false _ _ _ (rw (c.reading-now.ensures.1, c.reading-now.ensures.0) at c.first.ensures) c.due-time.ensures c.due_at-u.ensures c.if-u-gt-TIME_LIMIT.false _ (rw c.reading-now.ensures.0 at c.beside_idle.ensures) _ _ c.if-beside_idle.false c.schedule_apart.ensures.left
