@@ -8,7 +8,7 @@ pub mod reading;
 pub mod set_arms;
 pub mod soon;
 
-ghost use Rattle.std.specs.Prelude.{Ok, ◌≡◌, ◌+◌, ◌≤◌, ◌<◌, length, set};
+ghost use Rattle.std.specs.Prelude.{◌≡◌, ◌+◌, ◌≤◌, ◌<◌, length, set};
 ghost use Rattle.model.specs.Counts.{linkage_at};
 ghost use Rattle.trace.specs.Lines.{put, line_bytes};
 ghost use Rattle.run_laws.specs.StepIs.{Went};

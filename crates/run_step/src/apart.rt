@@ -1,5 +1,5 @@
 // The calls that are made apart from a stretch of turns: the rarer ones, those that have to count a set, and finish.
-ghost use Rattle.std.specs.Prelude.{◌≡◌, ◌≢◌, true, Ok};
+ghost use Rattle.std.specs.Prelude.{◌≡◌, ◌≢◌, true};
 ghost use Rattle.model_laws.specs.Ready.{Ready};
 ghost use Rattle.model_laws.specs.Tables.{model_of};
 ghost use Rattle.simset_laws.specs.BoundLaws.{Covers, Linking};
